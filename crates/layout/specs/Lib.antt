@@ -1,0 +1,4 @@
+pub mod Field
+pub mod Leaf
+pub mod Multiple
+pub mod Walk

@@ -1,0 +1,51 @@
+// Numbers in bytes, low byte first, as the fields of a header hold them.
+ghost use mathlib.Core.Path.{_≡_};
+ghost use Prim.Native.Nat.{_<_};
+ghost use lib.Seq.{sets};
+ghost use Rattle.layout.specs.Field.{bytes};
+ghost use Rattle.layout.specs.Leaf.{Within, Number};
+
+// A header: its size, and the places and widths of LEN and CTR. The width is 0 where it has no such field.
+pub struct Shape {
+    pub size: usize,
+    pub lenat: usize,
+    pub lenwidth: usize,
+    pub ctrat: usize,
+    pub ctrwidth: usize,
+}
+
+fn wide(x: u8) -> usize
+    ensures { λ r. ⌜ (r ≡ x) × (r < 256) ⌝ }
+{
+    x as usize
+}
+
+// The number in a field of at most two bytes; 0 where it has none.
+pub fn field(t: &[u8], at: usize, width: usize) -> usize
+    requires { ⌜ Within (now t) at width ⌝ }
+    ensures { λ r. ⌜ Number (now (t .entry)) at width r ⌝ }
+{
+    if width == 0 {
+        return 0;
+    }
+    let low = wide(t[at]);
+    if width == 1 {
+        return low;
+    }
+    low + 256 * wide(t[at + 1])
+}
+
+// Puts a number into a field of at most two bytes; what does not fit is left out.
+pub fn put_field(out: &mut [u8], at: usize, width: usize, n: usize)
+    requires { ⌜ Within (now out) at width ⌝ }
+    ensures { λ _. ⌜ now (out .exit) ≡ sets (now (out .entry)) at (bytes width n) ⌝ }
+{
+    if width == 0 {
+        return;
+    }
+    out[at] = (n % 256) as u8;
+    if width == 1 {
+        return;
+    }
+    out[at + 1] = (n / 256 % 256) as u8;
+}

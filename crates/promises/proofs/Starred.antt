@@ -1,0 +1,124 @@
+-- The examples of document 01, starred ones and their neighbours, in one table under one proof that is computed: each line is a call, and
+-- what the definition that the call's contract cites answers, with the lent table or output as it is left.
+use Prim.Native.Nat.{ℕ}
+use mathlib.Core.Path.{_≡_, refl}
+use mathlib.Core.Bool.{Bool, true, false}
+use mathlib.Core.List.{List, [], _∷_, _++_, map}
+use lib.ListN.{replicate}
+use Rattle.layout.specs.Multiple.{pad}
+use Rattle.layout.specs.Walk.{walk, go}
+use Rattle.packet.specs.declared.Counter.{Counter}
+use Rattle.packet.specs.declared.Reading.the-variants as Reading
+use Rattle.packet.specs.declared.Writing.the-variants as Writing
+use Rattle.packet.specs.Counter.{fresh, valid, gap, next, later, advance}
+use Rattle.packet.specs.Row.{row, table, behind}
+use Rattle.packet.specs.Packets.{packets, mismatched, first}
+use Rattle.packet.specs.Answer.{Read, answered, Wrote, stored}
+use Rattle.usb.specs.declared.Setting as UsbSetting
+use Rattle.usb.specs.Setting as U
+use Rattle.usb.specs.Reading as UsbReading
+use Rattle.usb.specs.Writing as UsbWriting
+use Rattle.flexray.specs.declared.Setting as FlexRaySetting
+use Rattle.flexray.specs.Setting as F
+use Rattle.flexray.specs.Reading as FlexRayReading
+use Rattle.flexray.specs.Writing as FlexRayWriting
+
+-- U1 in the packing given, U2, and R
+U1 : ℕ → UsbSetting.Setting
+U1 p = record { header = 1; packing = p; align = 4; datapacket = 16; longest = 64; direction = 0 }
+
+U2 : UsbSetting.Setting
+U2 = record { header = 5; packing = 2; align = 1; datapacket = 8; longest = 100; direction = 0 }
+
+R : FlexRaySetting.Setting
+R = record { node = 7; direction = 0; ceiling = 32; header = 5; align = 2 }
+
+-- header 0, node 7
+R0 : FlexRaySetting.Setting
+R0 = record { node = 7; direction = 0; ceiling = 32; header = 0; align = 1 }
+
+expecting : ℕ → Counter
+expecting n = record { known = 1; expected = n }
+
+-- a lent table or output: n numbers that are 9
+lent : ℕ → List ℕ
+lent n = replicate n 9
+
+pub data Result : Type 0 where
+  read : Read → Result
+  wrote : Wrote → Result
+
+-- what a call answers: the count and state, or bytes and counter, and the numbers now at the front of what was lent, before `left` others
+rows : ℕ → Counter → List ℕ → ℕ → Result
+rows k c ns left = read (record { answer = Reading.Rows k c; rows = ns ++ lent left })
+
+unread : ℕ → ℕ → ℕ → Result
+unread n p left = read (record { answer = Reading.Refused n p; rows = lent left })
+
+bytes : ℕ → ℕ → List ℕ → ℕ → Result
+bytes k c bs left = wrote (record { answer = Writing.Bytes k c; out = bs ++ lent left })
+
+pub record Example : Type 0 where
+  pub gives : Result
+  pub is : Result
+
+example : Result → Result → Example
+example r e = record { gives = r; is = e }
+
+usb-reads : UsbSetting.Setting → List ℕ → Counter → Result
+usb-reads s t c = read (UsbReading.readOf s t c (lent 12))
+
+usb-writes : UsbSetting.Setting → (bs ns : List ℕ) → ℕ → ℕ → Bool → Result
+usb-writes s bs ns c fill full = wrote (UsbWriting.writeOf s bs ns c fill full (lent 16))
+
+flexray-reads : FlexRaySetting.Setting → List ℕ → Result
+flexray-reads s t = read (FlexRayReading.readOf s t fresh (lent 12))
+
+flexray-writes : FlexRaySetting.Setting → (bs ns : List ℕ) → ℕ → Result
+flexray-writes s bs ns fill = wrote (FlexRayWriting.writeOf s bs ns 0 fill (lent 16))
+
+twelve : List ℕ
+twelve = 0x01 ∷ 0xFE ∷ 0xFF ∷ 0xEE ∷ 0x03 ∷ 0xFF ∷ 0x01 ∷ 0x02 ∷ 0x03 ∷ 0xEE ∷ 0xEE ∷ 0xEE ∷ []
+
+-- [FF], [01 02 03]
+two : List ℕ
+two = 0xFF ∷ 0x01 ∷ 0x02 ∷ 0x03 ∷ []
+
+pub examples : List Example
+examples =
+    example (usb-writes (U1 1) two (1 ∷ 3 ∷ []) 254 0xEE false) (bytes 12 0 twelve 4)
+    ∷ example (usb-writes (U1 1) two (1 ∷ 3 ∷ []) 254 0xEE true) (bytes 16 0 (twelve ++ (0x00 ∷ 0xEE ∷ 0xEE ∷ 0xEE ∷ [])) 0)
+    ∷ example (usb-reads (U1 1) twelve fresh) (rows 2 (expecting 0) (2 ∷ 1 ∷ 254 ∷ 0 ∷ 1 ∷ 6 ∷ 3 ∷ 255 ∷ 0 ∷ 5 ∷ []) 2)
+    ∷ example (usb-reads (U1 1) twelve (expecting 250)) (rows 2 (expecting 0) (2 ∷ 1 ∷ 254 ∷ 4 ∷ 1 ∷ 6 ∷ 3 ∷ 255 ∷ 0 ∷ 5 ∷ []) 2)
+    ∷ example (usb-reads (U1 1) (0x01 ∷ 0x00 ∷ 0xFF ∷ 0xEE ∷ []) (expecting 255)) (rows 1 (expecting 1) (2 ∷ 1 ∷ 0 ∷ 1 ∷ 1 ∷ []) 7)
+    ∷ example (usb-reads (U1 1) (0x01 ∷ 0xFF ∷ 0xFF ∷ 0xEE ∷ []) (expecting 0)) (rows 1 (expecting 0) (2 ∷ 1 ∷ 255 ∷ 255 ∷ 1 ∷ []) 7)
+    ∷ example (usb-reads (U1 1) (0x00 ∷ 0x07 ∷ 0x09 ∷ 0x09 ∷ []) fresh) (rows 0 fresh [] 12)
+    ∷ example (usb-reads (U1 0) (0x00 ∷ 0x07 ∷ 0x09 ∷ 0x09 ∷ []) fresh) (unread 6 0 12)
+    ∷ example (usb-reads (U1 0) [] fresh) (rows 0 fresh [] 12)
+    ∷ example (usb-reads (U1 1) [] fresh) (rows 0 fresh [] 12)
+    ∷ example (usb-reads (U1 2) [] fresh) (rows 0 fresh [] 12)
+    ∷ example (usb-reads (U1 1) (0x01 ∷ 0x00 ∷ 0xFF ∷ []) fresh) (unread 5 0 12)
+    ∷ example (usb-reads (U1 1) (0x41 ∷ 0x00 ∷ []) fresh) (unread 3 0 12)
+    ∷ example (usb-reads (U1 1) (0x40 ∷ 0x00 ∷ []) fresh) (unread 5 0 12)
+    ∷ example (usb-writes U2 (0x10 ∷ 0x20 ∷ []) (1 ∷ 1 ∷ []) 0 0xAA false)
+    (bytes 13 0 (0x01 ∷ 0x00 ∷ 0xAA ∷ 0xAA ∷ 0x10 ∷ 0xAA ∷ 0xAA ∷ 0xAA ∷ 0x01 ∷ 0x00 ∷ 0xAA ∷ 0xAA ∷ 0x20 ∷ []) 3)
+    ∷ example (usb-writes U2 (0x10 ∷ 0x11 ∷ 0x12 ∷ 0x13 ∷ 0x14 ∷ 0x20 ∷ []) (5 ∷ 1 ∷ []) 0 0xAA false)
+    (bytes 14 0 (0x05 ∷ 0x00 ∷ 0xAA ∷ 0xAA ∷ 0x10 ∷ 0x11 ∷ 0x12 ∷ 0x13 ∷ 0x14 ∷ 0x01 ∷ 0x00 ∷ 0xAA ∷ 0xAA ∷ 0x20 ∷ []) 2)
+    ∷ example (usb-reads U2 (0x05 ∷ 0x00 ∷ 0xAA ∷ 0xAA ∷ 0x10 ∷ 0x11 ∷ 0x12 ∷ 0x13 ∷ []) fresh) (unread 5 0 12)
+    ∷ example (flexray-writes R (0xFF ∷ []) (1 ∷ []) 0xEE) (bytes 4 0 (0x07 ∷ 0x01 ∷ 0xFF ∷ 0x00 ∷ []) 12)
+    ∷ example (flexray-writes R (0x01 ∷ 0x02 ∷ 0xFF ∷ []) (2 ∷ 1 ∷ []) 0xEE)
+    (bytes 8 0 (0x07 ∷ 0x02 ∷ 0x01 ∷ 0x02 ∷ 0xEE ∷ 0x01 ∷ 0xFF ∷ 0x00 ∷ []) 8)
+    ∷ example (flexray-reads R (0x07 ∷ 0x01 ∷ 0xFF ∷ 0xEE ∷ [])) (unread 5 3 12)
+    ∷ example (flexray-writes R0 (0xFF ∷ 0x00 ∷ []) (2 ∷ []) 0xEE) (bytes 4 0 (0x07 ∷ 0xFF ∷ 0x00 ∷ 0xEE ∷ []) 12)
+    ∷ example (flexray-reads R0 (0x07 ∷ 0xFF ∷ 0x00 ∷ 0xEE ∷ [])) (rows 1 fresh (1 ∷ 3 ∷ 0 ∷ 0 ∷ 1 ∷ []) 7)
+    ∷ []
+
+pub starred : map (λ x. x .gives) examples ≡ map (λ x. x .is) examples
+unfolding U1 U2 R R0 expecting lent rows unread bytes example usb-reads usb-writes flexray-reads flexray-writes twelve two examples
+    pad walk go valid gap next later advance row table behind packets mismatched first answered stored
+    U.headers U.sound UsbReading.lenAt UsbReading.judge UsbReading.seen UsbReading.ahead UsbReading.judged UsbReading.readOf
+    UsbWriting.restBytes UsbWriting.permits UsbWriting.skipped UsbWriting.write UsbWriting.misfit UsbWriting.composed UsbWriting.writeOf
+    F.headers F.start F.moved F.sound FlexRayReading.seen FlexRayReading.ahead FlexRayReading.judged FlexRayReading.frameTable
+    FlexRayReading.frameState FlexRayReading.readOf FlexRayWriting.evening FlexRayWriting.further FlexRayWriting.frame
+    FlexRayWriting.spansBehind FlexRayWriting.spans FlexRayWriting.misfit FlexRayWriting.miscounted FlexRayWriting.composed FlexRayWriting.writeOf
+starred = refl

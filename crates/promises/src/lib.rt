@@ -1,0 +1,1 @@
+// What is promised, as theorems: this crate's matter is its proofs/.

@@ -1,0 +1,5 @@
+pub mod Layout
+pub mod Reading
+pub mod Refusal
+pub mod Setting
+pub mod Writing
