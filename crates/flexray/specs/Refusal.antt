@@ -10,7 +10,7 @@ use Rattle.packet.specs.declared.Counter.{Counter}
 use Rattle.packet.specs.Message.{Msg}
 use Rattle.packet.specs.Counter.{valid, holds}
 use Rattle.packet.specs.Packets.{Matched, Mismatch, packets}
-use Rattle.packet.specs.Answer.{Room}
+use Rattle.packet.specs.Answer.{Ready, NoRoom}
 use Rattle.flexray.specs.declared.Setting.{Setting}
 use Rattle.flexray.specs.Setting.{fields, H, L, W, start, sound}
 use Rattle.flexray.specs.Layout.{Sized, Laid, Frame}
@@ -19,9 +19,8 @@ use Rattle.flexray.specs.Writing.{Span, spans, frame}
 ---- The reader -----------------------------------------------------------------------------------------------------------------
 
 -- neither the setting nor the state is refused
-pub record Fine (s : Setting) (c : Counter) : Type 0 where
-  pub setting : sound s ≡ true
-  pub counter : valid (W s) c ≡ true
+abbrev pub Fine : Setting → Counter → Type 0
+Fine s c = Ready (sound s) (valid (W s) c)
 
 -- the length is neither odd nor over F
 pub record Evened (s : Setting) (t : List ℕ) : Type 0 where
@@ -60,9 +59,8 @@ pub data Unfit (s : Setting) (x : Span) : Type 0 where
   empty : x .long ≡ 0 → Unfit s x
   over : s .ceiling < x .end → Unfit s x
 
-pub record Willing (s : Setting) (c : ℕ) : Type 0 where
-  pub setting : sound s ≡ true
-  pub counter : holds (W s) c ≡ true
+abbrev pub Willing : Setting → ℕ → Type 0
+Willing s c = Ready (sound s) (holds (W s) c)
 
 -- as many packets as a frame takes: some, and one without LEN
 pub record Counted (s : Setting) (ns : List ℕ) : Type 0 where
@@ -83,4 +81,4 @@ pub data WriteRefusal (s : Setting) (bs ns : List ℕ) (c fill bytes : ℕ) : �
   unfit : {i : ℕ} → Willing s c → Matched ns bs → Counted s ns → i < length ns → ((j : ℕ) → j < i → Fit s (span s ns j))
       → Unfit s (span s ns i) → WriteRefusal s bs ns c fill bytes 3 i
   room : Willing s c → Matched ns bs → Counted s ns → ((j : ℕ) → j < length ns → Fit s (span s ns j))
-      → Room bytes (length (frame s fill c (packets ns bs))) → WriteRefusal s bs ns c fill bytes 4 0
+      → NoRoom bytes (length (frame s fill c (packets ns bs))) → WriteRefusal s bs ns c fill bytes 4 0

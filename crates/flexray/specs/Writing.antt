@@ -5,10 +5,12 @@ use mathlib.Core.List.{List, [], _∷_, _++_}
 use lib.ListN.{length, replicate}
 use lib.Dec.{ltb, eqb}
 use Rattle.layout.specs.Field.{values, puts}
+use Rattle.layout.specs.Walk.{Out}
 use Rattle.packet.specs.Message.{Msg}
 use Rattle.packet.specs.Counter.{holds, later}
 use Rattle.packet.specs.Packets.{packets, mismatched, first}
-use Rattle.packet.specs.Answer.{Made, Made.made, Made.unfit, Wrote, stored}
+use Rattle.packet.specs.declared.Writing.{Writing}
+use Rattle.packet.specs.Answer.{Answer, weighed, stored}
 use Rattle.flexray.specs.declared.Setting.{Setting}
 use Rattle.flexray.specs.Setting.{fields, H, L, W, start, moved, sound}
 
@@ -71,13 +73,10 @@ unfoldable pub miscounted : Setting → List ℕ → Bool
 miscounted s ns = eqb (length ns) 0 || (eqb (L s) 0 && not (eqb (length ns) 1))
 
 -- joined packet bytes, lengths, first counter, fill byte
-unfoldable pub composed : Setting → List ℕ → List ℕ → ℕ → ℕ → Made
+unfoldable pub composed : Setting → List ℕ → List ℕ → ℕ → ℕ → Out ℕ
 composed s bs ns c fill =
-    let i = first (misfit s) (spans s ns) in
-    let m = made (frame s fill c (packets ns bs)) (later (W s) (moved (length ns)) c) in
-    cond (not (sound s && holds (W s) c)) (unfit 1 0)
-    (cond (mismatched ns bs || miscounted s ns) (unfit 2 0)
-    (cond (ltb i (length ns)) (unfit 3 i) m))
+    weighed (sound s) (holds (W s) c) (mismatched ns bs || miscounted s ns) (first (misfit s) (spans s ns)) (length ns)
+    (frame s fill c (packets ns bs))
 
-unfoldable pub writeOf : Setting → List ℕ → List ℕ → ℕ → ℕ → List ℕ → Wrote
-writeOf s bs ns c fill out = stored out (composed s bs ns c fill)
+unfoldable pub writeOf : Setting → List ℕ → List ℕ → ℕ → ℕ → List ℕ → Answer Writing
+writeOf s bs ns c fill out = stored (later (W s) (moved (length ns)) c) out (composed s bs ns c fill)

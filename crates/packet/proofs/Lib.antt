@@ -1,1 +1,4 @@
+pub mod AnswerLaws
 pub mod CounterLaws
+pub mod PacketsLaws
+pub mod RowLaws

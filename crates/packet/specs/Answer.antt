@@ -1,7 +1,8 @@
 -- Answers (document 01, 'What reading and writing return'), for every input: with the number and values of that paper for each case,
--- and with the lent table or output as it is left.
+-- and with the lent table or output as the call leaves it.
 use Prim.Native.Nat.{ℕ, _*_, _<_, min}
-use mathlib.Core.Bool.{cond}
+use mathlib.Core.Path.{_≡_}
+use mathlib.Core.Bool.{Bool, true, cond, not, _&&_}
 use mathlib.Core.List.{List}
 use lib.ListN.{length}
 use lib.Seq.{sets}
@@ -14,13 +15,18 @@ use Rattle.packet.specs.declared.Writing.{Writing}
 use Rattle.packet.specs.declared.Writing.the-variants as W
 use Rattle.packet.specs.Message.{Msg}
 
+-- neither the setting nor the counter is refused with 1
+pub record Ready (sound held : Bool) : Type 0 where
+  pub setting : sound ≡ true
+  pub counter : held ≡ true
+
 -- the longest transfer
 abbrev pub mostBytes : ℕ
 mostBytes = 262144
 
----- A reader's answer ----------------------------------------------------------------------------------------------------------
+---- The numbers and values of an answer ----------------------------------------------------------------------------------------
 
--- the refusal's number, 0 where it read; the row count, or the refusal's place
+-- a reader's: the refusal's number, 0 where it read; the row count, or the refusal's place
 abbrev pub readNumber : Reading → ℕ
 readNumber (R.Rows k c) = 0
 readNumber (R.Refused n p) = n
@@ -34,25 +40,7 @@ abbrev pub readState : Counter → Reading → Counter
 readState c (R.Rows k d) = d
 readState c (R.Refused n p) = c
 
--- the answer, and the lent table behind the call
-pub record Read : Type 0 where
-  pub answer : Reading
-  pub rows : List ℕ
-
-abbrev pub unread : List ℕ → ℕ → ℕ → Read
-unread rows n p = record { answer = R.Refused n p; rows = rows }
-
--- The messages or the refusal were judged: with messages, 4 if the table has fewer than five numbers for each row, else their rows and
--- the state behind them. Rows past the answer are unchanged
-unfoldable pub answered : List ℕ → (List Msg → List ℕ) → (List Msg → Counter) → Out Msg → Read
-answered rows table state (refused n p) = unread rows n p
-answered rows table state (list ms) =
-    cond (ltb (length rows) (5 * length ms)) (unread rows 4 0)
-    (record { answer = R.Rows (length ms) (state ms); rows = sets rows 0 (table ms) })
-
----- A writer's answer ----------------------------------------------------------------------------------------------------------
-
--- the refusal's number, 0 where it wrote; the bytes written, or the refusal's place
+-- a writer's: the refusal's number, 0 where it wrote; the bytes written, or the refusal's place
 abbrev pub writeNumber : Writing → ℕ
 writeNumber (W.Bytes k c) = 0
 writeNumber (W.Refused n p) = n
@@ -66,27 +54,41 @@ abbrev pub writeCounter : ℕ → Writing → ℕ
 writeCounter c (W.Bytes k d) = d
 writeCounter c (W.Refused n p) = c
 
--- the answer, and the lent output behind the call
-pub record Wrote : Type 0 where
-  pub answer : Writing
-  pub out : List ℕ
+---- From what was judged to the answer -----------------------------------------------------------------------------------------
 
--- what a writer makes of its packets: bytes and the next counter, or a refusal's number and place
-pub data Made : Type 0 where
-  made : List ℕ → ℕ → Made
-  unfit : ℕ → ℕ → Made
+-- the answer, and the lent numbers behind the call
+pub record Answer (E : Type 0) : Type 0 where
+  pub answer : E
+  pub lent : List ℕ
 
-abbrev pub unwritten : List ℕ → ℕ → ℕ → Wrote
-unwritten out n p = record { answer = W.Refused n p; out = out }
+module _ {R E : Type 0} where
+  -- Refused as judged; else 4 at 0 if the lent numbers are too few; else accepted, with the numbers to be told at the front of the lent ones.
+  -- Those behind are unchanged, and a refusal changes none
+  unfoldable pub settled : (ℕ → ℕ → E) → (List R → E) → (List R → Bool) → (List R → List ℕ) → List ℕ → Out R → Answer E
+  settled refuse accept few told lent (refused n p) = record { answer = refuse n p; lent = lent }
+  settled refuse accept few told lent (list xs) =
+      cond (few xs) (record { answer = refuse 4 0; lent = lent }) (record { answer = accept xs; lent = sets lent 0 (told xs) })
 
--- n bytes are too many for the output, or would exceed the longest transfer
-pub data Room (room n : ℕ) : Type 0 where
-  small : room < n → Room room n
-  long : mostBytes < n → Room room n
+-- A reader with these rows and this state for its messages: fewer than five numbers for each row are too few
+abbrev pub fewNumbers : List ℕ → List Msg → Bool
+fewNumbers rows ms = ltb (length rows) (5 * length ms)
 
--- 4 if the output is too small, or would exceed 262,144. Bytes past the answer are unchanged
-unfoldable pub stored : List ℕ → Made → Wrote
-stored out (unfit n p) = unwritten out n p
-stored out (made bs c) =
-    cond (ltb (min (length out) mostBytes) (length bs)) (unwritten out 4 0)
-    (record { answer = W.Bytes (length bs) c; out = sets out 0 bs })
+abbrev pub answered : (List Msg → List ℕ) → (List Msg → Counter) → List ℕ → Out Msg → Answer Reading
+answered table state rows = settled R.Refused (λ ms. R.Rows (length ms) (state ms)) (fewNumbers rows) table rows
+
+-- A writer with this next counter: the output is too small, or would exceed the longest transfer
+abbrev pub fewBytes : List ℕ → List ℕ → Bool
+fewBytes out bs = ltb (min (length out) mostBytes) (length bs)
+
+abbrev pub stored : ℕ → List ℕ → Out ℕ → Answer Writing
+stored next out = settled W.Refused (λ bs. W.Bytes (length bs) next) (fewBytes out) (λ bs. bs) out
+
+-- Before that a writer refuses 1, 2, and 3 at the least index i of n lengths that does not fit
+unfoldable pub weighed : (sound counter mismatch : Bool) (i n : ℕ) → List ℕ → Out ℕ
+weighed sound counter mismatch i n bs =
+    cond (not (sound && counter)) (refused 1 0) (cond mismatch (refused 2 0) (cond (ltb i n) (refused 3 i) (list bs)))
+
+-- n bytes have no room
+pub data NoRoom (room n : ℕ) : Type 0 where
+  small : room < n → NoRoom room n
+  long : mostBytes < n → NoRoom room n

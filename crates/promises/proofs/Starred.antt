@@ -8,12 +8,14 @@ use lib.ListN.{replicate}
 use Rattle.layout.specs.Multiple.{pad}
 use Rattle.layout.specs.Walk.{walk, go}
 use Rattle.packet.specs.declared.Counter.{Counter}
-use Rattle.packet.specs.declared.Reading.the-variants as Reading
-use Rattle.packet.specs.declared.Writing.the-variants as Writing
+use Rattle.packet.specs.declared.Reading.the-variants as Reads
+use Rattle.packet.specs.declared.Writing.the-variants as Writes
 use Rattle.packet.specs.Counter.{fresh, valid, gap, next, later, advance}
 use Rattle.packet.specs.Row.{row, table, behind}
 use Rattle.packet.specs.Packets.{packets, mismatched, first}
-use Rattle.packet.specs.Answer.{Read, answered, Wrote, stored}
+use Rattle.packet.specs.declared.Reading.{Reading}
+use Rattle.packet.specs.declared.Writing.{Writing}
+use Rattle.packet.specs.Answer.{Answer, settled, weighed}
 use Rattle.usb.specs.declared.Setting as UsbSetting
 use Rattle.usb.specs.Setting as U
 use Rattle.usb.specs.Reading as UsbReading
@@ -41,22 +43,22 @@ expecting : ℕ → Counter
 expecting n = record { known = 1; expected = n }
 
 -- a lent table or output: n numbers that are 9
-lent : ℕ → List ℕ
-lent n = replicate n 9
+spare : ℕ → List ℕ
+spare n = replicate n 9
 
 pub data Result : Type 0 where
-  read : Read → Result
-  wrote : Wrote → Result
+  read : Answer Reading → Result
+  wrote : Answer Writing → Result
 
 -- what a call answers: the count and state, or bytes and counter, and the numbers now at the front of what was lent, before `left` others
 rows : ℕ → Counter → List ℕ → ℕ → Result
-rows k c ns left = read (record { answer = Reading.Rows k c; rows = ns ++ lent left })
+rows k c ns left = read (record { answer = Reads.Rows k c; lent = ns ++ spare left })
 
 unread : ℕ → ℕ → ℕ → Result
-unread n p left = read (record { answer = Reading.Refused n p; rows = lent left })
+unread n p left = read (record { answer = Reads.Refused n p; lent = spare left })
 
 bytes : ℕ → ℕ → List ℕ → ℕ → Result
-bytes k c bs left = wrote (record { answer = Writing.Bytes k c; out = bs ++ lent left })
+bytes k c bs left = wrote (record { answer = Writes.Bytes k c; lent = bs ++ spare left })
 
 pub record Example : Type 0 where
   pub gives : Result
@@ -66,16 +68,16 @@ example : Result → Result → Example
 example r e = record { gives = r; is = e }
 
 usb-reads : UsbSetting.Setting → List ℕ → Counter → Result
-usb-reads s t c = read (UsbReading.readOf s t c (lent 12))
+usb-reads s t c = read (UsbReading.readOf s t c (spare 12))
 
 usb-writes : UsbSetting.Setting → (bs ns : List ℕ) → ℕ → ℕ → Bool → Result
-usb-writes s bs ns c fill full = wrote (UsbWriting.writeOf s bs ns c fill full (lent 16))
+usb-writes s bs ns c fill full = wrote (UsbWriting.writeOf s bs ns c fill full (spare 16))
 
 flexray-reads : FlexRaySetting.Setting → List ℕ → Result
-flexray-reads s t = read (FlexRayReading.readOf s t fresh (lent 12))
+flexray-reads s t = read (FlexRayReading.readOf s t fresh (spare 12))
 
 flexray-writes : FlexRaySetting.Setting → (bs ns : List ℕ) → ℕ → Result
-flexray-writes s bs ns fill = wrote (FlexRayWriting.writeOf s bs ns 0 fill (lent 16))
+flexray-writes s bs ns fill = wrote (FlexRayWriting.writeOf s bs ns 0 fill (spare 16))
 
 twelve : List ℕ
 twelve = 0x01 ∷ 0xFE ∷ 0xFF ∷ 0xEE ∷ 0x03 ∷ 0xFF ∷ 0x01 ∷ 0x02 ∷ 0x03 ∷ 0xEE ∷ 0xEE ∷ 0xEE ∷ []
@@ -114,8 +116,8 @@ examples =
     ∷ []
 
 pub starred : map (λ x. x .gives) examples ≡ map (λ x. x .is) examples
-unfolding U1 U2 R R0 expecting lent rows unread bytes example usb-reads usb-writes flexray-reads flexray-writes twelve two examples
-    pad walk go valid gap next later advance row table behind packets mismatched first answered stored
+unfolding U1 U2 R R0 expecting spare rows unread bytes example usb-reads usb-writes flexray-reads flexray-writes twelve two examples
+    pad walk go valid gap next later advance row table behind packets mismatched first settled weighed
     U.headers U.sound UsbReading.lenAt UsbReading.judge UsbReading.seen UsbReading.ahead UsbReading.judged UsbReading.readOf
     UsbWriting.restBytes UsbWriting.permits UsbWriting.skipped UsbWriting.write UsbWriting.misfit UsbWriting.composed UsbWriting.writeOf
     F.headers F.start F.moved F.sound FlexRayReading.seen FlexRayReading.ahead FlexRayReading.judged FlexRayReading.frameTable

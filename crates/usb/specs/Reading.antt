@@ -13,7 +13,9 @@ use Rattle.packet.specs.declared.Seen.the-variants as S
 use Rattle.packet.specs.Message.{Msg, asStep}
 use Rattle.packet.specs.Counter.{valid}
 use Rattle.packet.specs.Row.{table, behind}
-use Rattle.packet.specs.Answer.{Read, unread, answered, mostBytes}
+use Rattle.packet.specs.declared.Reading.{Reading}
+use Rattle.packet.specs.declared.Reading.the-variants as R
+use Rattle.packet.specs.Answer.{Answer, answered, mostBytes}
 use Rattle.usb.specs.declared.Setting.{Setting}
 use Rattle.usb.specs.declared.Verdict.{Verdict}
 use Rattle.usb.specs.declared.Verdict.the-variants.{Stop, TakeRest, TakeMessage, Refuse}
@@ -75,7 +77,7 @@ judged s t =
     cond (not (sound s)) (refused 1 0) (cond (ltb mostBytes (length t)) (refused 2 0) w)
 
 -- 1 for the state stands beside 1 for the setting, 4 comes last
-unfoldable pub readOf : Setting → List ℕ → Counter → List ℕ → Read
+unfoldable pub readOf : Setting → List ℕ → Counter → List ℕ → Answer Reading
 readOf s t c rows =
-    let r = answered rows (table (s .direction) (W s) c) (behind (W s) c) (judged s t) in
-    cond (valid (W s) c) r (unread rows 1 0)
+    let r = answered (table (s .direction) (W s) c) (behind (W s) c) rows (judged s t) in
+    cond (valid (W s) c) r (record { answer = R.Refused 1 0; lent = rows })

@@ -10,7 +10,7 @@ use Rattle.packet.specs.declared.Counter.{Counter}
 use Rattle.packet.specs.Message.{Msg}
 use Rattle.packet.specs.Counter.{valid, holds}
 use Rattle.packet.specs.Packets.{Matched, Mismatch, packets}
-use Rattle.packet.specs.Answer.{mostBytes, Room}
+use Rattle.packet.specs.Answer.{mostBytes, Ready, NoRoom}
 use Rattle.usb.specs.declared.Setting.{Setting}
 use Rattle.usb.specs.Setting.{fields, H, W, whole, sound}
 use Rattle.usb.specs.Layout.{Laid, Transfer}
@@ -40,9 +40,8 @@ pub data Broken (s : Setting) (q : ℕ) (bs : List ℕ) : ℕ → Type 0 where
   zero : s .packing ≡ 0 → q % s .datapacket ≡ 0 → H s ≤ length bs → says LEN (fields s) bs 0 ≡ 0 → Broken s q bs 6
 
 -- neither the setting nor the state is refused
-pub record Fine (s : Setting) (c : Counter) : Type 0 where
-  pub setting : sound s ≡ true
-  pub counter : valid (W s) c ≡ true
+abbrev pub Fine : Setting → Counter → Type 0
+Fine s c = Ready (sound s) (valid (W s) c)
 
 -- a transfer t, read with the state c into a table of so many numbers. The leftmost broken rule counts: before it all is laid out
 pub data ReadRefusal (s : Setting) (t : List ℕ) (c : Counter) (numbers : ℕ) : ℕ → ℕ → Type 0 where
@@ -66,9 +65,8 @@ pub data Unfit (s : Setting) (n : ℕ) : Type 0 where
   over : s .longest < n → Unfit s n
   wide : s .packing < 2 → s .datapacket < whole s n → Unfit s n
 
-pub record Willing (s : Setting) (c : ℕ) : Type 0 where
-  pub setting : sound s ≡ true
-  pub counter : holds (W s) c ≡ true
+abbrev pub Willing : Setting → ℕ → Type 0
+Willing s c = Ready (sound s) (holds (W s) c)
 
 -- packets of the lengths ns in the joined bytes bs, first counter c, fill byte, whether to fill up, an output of so many bytes
 pub data WriteRefusal (s : Setting) (bs ns : List ℕ) (c fill : ℕ) (full : Bool) (bytes : ℕ) : ℕ → ℕ → Type 0 where
@@ -78,5 +76,5 @@ pub data WriteRefusal (s : Setting) (bs ns : List ℕ) (c fill : ℕ) (full : Bo
   -- the least index
   unfit : {i : ℕ} → Willing s c → Matched ns bs → i < length ns → ((j : ℕ) → j < i → Fit s (getD ns j 0)) → Unfit s (getD ns i 0)
       → WriteRefusal s bs ns c fill full bytes 3 i
-  room : Willing s c → Matched ns bs → ((j : ℕ) → j < length ns → Fit s (getD ns j 0)) → Room bytes (length (write s fill full 0 c (packets ns bs)))
-      → WriteRefusal s bs ns c fill full bytes 4 0
+  room : Willing s c → Matched ns bs → ((j : ℕ) → j < length ns → Fit s (getD ns j 0))
+      → NoRoom bytes (length (write s fill full 0 c (packets ns bs))) → WriteRefusal s bs ns c fill full bytes 4 0

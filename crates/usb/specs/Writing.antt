@@ -1,15 +1,17 @@
 -- Writing a USB transfer (document 01, 'What reading and writing return'): each message at the first place that the layout permits.
 use Prim.Native.Nat.{ℕ, _+_, _-_, _%_}
-use mathlib.Core.Bool.{Bool, cond, not, _&&_, _||_}
+use mathlib.Core.Bool.{Bool, cond, _&&_, _||_}
 use mathlib.Core.List.{List, [], _∷_, _++_}
 use lib.ListN.{length, replicate}
 use lib.Dec.{leb, ltb, eqb}
 use Rattle.layout.specs.Field.{width, bytes, values, puts, Kind.LEN}
 use Rattle.layout.specs.Multiple.{pad}
+use Rattle.layout.specs.Walk.{Out}
 use Rattle.packet.specs.Message.{Msg}
 use Rattle.packet.specs.Counter.{holds, next, later}
 use Rattle.packet.specs.Packets.{packets, mismatched, first}
-use Rattle.packet.specs.Answer.{Made, Made.made, Made.unfit, Wrote, stored}
+use Rattle.packet.specs.declared.Writing.{Writing}
+use Rattle.packet.specs.Answer.{Answer, weighed, stored}
 use Rattle.usb.specs.declared.Setting.{Setting}
 use Rattle.usb.specs.Setting.{fields, H, W, whole, sound}
 
@@ -58,13 +60,9 @@ unfoldable pub misfit : Setting → ℕ → Bool
 misfit s n = eqb n 0 || ltb (s .longest) n || (ltb (s .packing) 2 && ltb (s .datapacket) (whole s n))
 
 -- joined packet bytes, lengths, first counter, fill byte, whether to fill up
-unfoldable pub composed : Setting → List ℕ → List ℕ → ℕ → ℕ → Bool → Made
+unfoldable pub composed : Setting → List ℕ → List ℕ → ℕ → ℕ → Bool → Out ℕ
 composed s bs ns c fill full =
-    let i = first (misfit s) ns in
-    let m = made (write s fill full 0 c (packets ns bs)) (later (W s) (length ns) c) in
-    cond (not (sound s && holds (W s) c)) (unfit 1 0)
-    (cond (mismatched ns bs) (unfit 2 0)
-    (cond (ltb i (length ns)) (unfit 3 i) m))
+    weighed (sound s) (holds (W s) c) (mismatched ns bs) (first (misfit s) ns) (length ns) (write s fill full 0 c (packets ns bs))
 
-unfoldable pub writeOf : Setting → List ℕ → List ℕ → ℕ → ℕ → Bool → List ℕ → Wrote
-writeOf s bs ns c fill full out = stored out (composed s bs ns c fill full)
+unfoldable pub writeOf : Setting → List ℕ → List ℕ → ℕ → ℕ → Bool → List ℕ → Answer Writing
+writeOf s bs ns c fill full out = stored (later (W s) (length ns) c) out (composed s bs ns c fill full)
