@@ -41,7 +41,7 @@ pub data Laid (s : Setting) (e : ℕ) (cs : List ℕ) : List Msg → List ℕ �
 -- behind the last packet, which ends at place e, the place where the next LEN would stand is outside the frame or holds zero
 pub data Closed (a e : ℕ) : List ℕ → Type 0 where
   outside : (r : List ℕ) → e + length r < start a e → Closed a e r
-  zero : (f r : List ℕ) → e + length f + 1 ≡ start a e → Closed a e (f ++ (0 ∷ r))
+  zeroed : (f r : List ℕ) → e + length f + 1 ≡ start a e → Closed a e (f ++ (0 ∷ r))
 
 -- a frame, which holds these packets and nothing else
 pub record Frame (s : Setting) (ms : List Msg) (t : List ℕ) : Type 0 where

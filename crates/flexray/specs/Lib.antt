@@ -2,4 +2,5 @@ pub mod Layout
 pub mod Reading
 pub mod Refusal
 pub mod Setting
+pub mod Table
 pub mod Writing

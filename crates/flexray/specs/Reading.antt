@@ -10,11 +10,11 @@ use Rattle.layout.specs.Walk.{Step, Out, walk, Out.refused}
 use Rattle.packet.specs.declared.Counter.{Counter}
 use Rattle.packet.specs.declared.Seen.{Seen}
 use Rattle.packet.specs.declared.Seen.the-variants as S
-use Rattle.packet.specs.Message.{Msg, asStep}
+use Rattle.packet.specs.Message.{Msg}
+use Rattle.packet.specs.Seen.{asStep}
 use Rattle.packet.specs.Counter.{valid, advance}
 use Rattle.packet.specs.Row.{row, numbers, table}
 use Rattle.packet.specs.declared.Reading.{Reading}
-use Rattle.packet.specs.declared.Reading.the-variants as R
 use Rattle.packet.specs.Answer.{Answer, answered}
 use Rattle.flexray.specs.declared.Setting.{Setting}
 use Rattle.flexray.specs.Setting.{fields, H, L, W, start, moved, sound}
@@ -70,6 +70,4 @@ frameState w c (m ∷ ms) = advance w (moved (suc (length ms))) c (m .ctr)
 
 -- 1 for the state stands beside 1 for the setting, 4 comes last
 unfoldable pub readOf : Setting → List ℕ → Counter → List ℕ → Answer Reading
-readOf s t c rows =
-    let r = answered (frameTable (s .direction) (W s) c) (frameState (W s) c) rows (judged s t) in
-    cond (valid (W s) c) r (record { answer = R.Refused 1 0; lent = rows })
+readOf s t c rows = answered (frameTable (s .direction) (W s) c) (frameState (W s) c) rows (valid (W s) c) (judged s t)

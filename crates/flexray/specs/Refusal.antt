@@ -30,7 +30,7 @@ pub record Evened (s : Setting) (t : List ℕ) : Type 0 where
 -- the rule that is broken at a place of a frame of right length and node
 pub data Broken (s : Setting) (t : List ℕ) : ℕ → ℕ → Type 0 where
   -- the first LEN is 0
-  zero : 0 < L s → says LEN (fields s) t 0 ≡ 0 → Broken s t 6 0
+  zeroed : 0 < L s → says LEN (fields s) t 0 ≡ 0 → Broken s t 6 0
   -- the first packet runs past the frame
   past : (n : ℕ) → 0 < L s → says LEN (fields s) t 0 ≡ n → 0 < n → length t < H s + n → Broken s t 5 0
   -- a later packet does, behind packets that are laid out up to place e: 5 at its LEN
@@ -67,8 +67,12 @@ pub record Counted (s : Setting) (ns : List ℕ) : Type 0 where
   pub some : 0 < length ns
   pub one : L s ≡ 0 → length ns ≡ 1
 
+-- the packet at an index
+abbrev pub noSpan : Span
+noSpan = record { long = 0; end = 0 }
+
 abbrev pub span : Setting → List ℕ → ℕ → Span
-span s ns i = getD (spans s ns) i (record { long = 0; end = 0 })
+span s ns i = getD (spans s ns) i noSpan
 
 -- packets of the lengths ns in the joined bytes bs, first counter c, fill byte, an output of so many bytes
 pub data WriteRefusal (s : Setting) (bs ns : List ℕ) (c fill bytes : ℕ) : ℕ → ℕ → Type 0 where

@@ -16,11 +16,13 @@ use Rattle.flexray.specs.Setting.{fields, H, L, W, start, moved, sound}
 
 ---- The bytes ------------------------------------------------------------------------------------------------------------------
 
--- the byte that evens a frame whose last packet ends at e: zero on the next LEN place, else the fill byte
+-- the byte behind a last packet that ends at e: zero on the next LEN place, else the fill byte
+abbrev pub byteAfter : Setting → ℕ → ℕ → ℕ
+byteAfter s fill e = cond (not (eqb (L s) 0) && eqb (start (s .align) e) (e + 1)) 0 fill
+
+-- it evens the frame
 unfoldable pub evening : Setting → ℕ → ℕ → List ℕ
-evening s fill e =
-    cond (eqb (e % 2) 0) []
-    (cond (not (eqb (L s) 0) && eqb (start (s .align) e) (e + 1)) 0 fill ∷ [])
+evening s fill e = cond (eqb (e % 2) 0) [] (byteAfter s fill e ∷ [])
 
 -- the frame behind a packet that ends at e
 unfoldable pub further : Setting → ℕ → ℕ → List (List ℕ) → List ℕ

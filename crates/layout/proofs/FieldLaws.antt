@@ -45,6 +45,10 @@ pub says-here : (k : Kind) (fs : List Field) (q : ℕ) (t h r : List ℕ) → si
 says-here k fs q t h r b e =
     rw (← le-drop (width k fs) q (place k fs) t, ← e, le-left (width k fs) (place k fs) h r (omega (arith, inside k fs)), zero-add)
 
+-- and in the bytes that are left at q
+pub says-drop : (k : Kind) (fs : List Field) (q : ℕ) (t : List ℕ) → says k fs (drop q t) 0 ≡ says k fs t q
+says-drop k fs q t = le-drop (width k fs) q (0 + place k fs) t ∙ rw zero-add
+
 -- what was written is read back, at every width
 pub le-bytes : (w n : ℕ) (r : List ℕ) → n < 256 ^ w → le w (bytes w n ++ r) 0 ≡ n
 le-bytes zero n r h = omega arith

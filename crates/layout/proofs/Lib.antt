@@ -1,6 +1,7 @@
 pub mod FieldLaws
 pub mod LeafLaws
 pub mod MultipleLaws
+pub mod PartLaws
 pub mod TableLaws
 pub mod TestLaws
 pub mod WalkLaws

@@ -31,3 +31,9 @@ module _ {A : Type 0} where
   all-at f d [] i e h = absurd (omega arith)
   all-at f d (x ∷ xs) zero e h = and-left (f x) (all f xs) e
   all-at f d (x ∷ xs) (suc i) e h = all-at f d xs i (and-right (f x) (all f xs) e) (omega arith)
+
+  -- .. at every number, where what stands for no entry passes it too
+  pub all-given : (f : A → Bool) (d : A) (xs : List A) (i : ℕ) → f d ≡ true → all f xs ≡ true → f (getD xs i d) ≡ true
+  all-given f d [] i o e = o
+  all-given f d (x ∷ xs) zero o e = and-left (f x) (all f xs) e
+  all-given f d (x ∷ xs) (suc i) o e = all-given f d xs i o (and-right (f x) (all f xs) e)

@@ -1,5 +1,6 @@
-// Numbers in bytes, low byte first, as the fields of a header hold them.
+// Headers, and numbers in their fields, low byte first; and how tests are joined.
 ghost use mathlib.Core.Path.{_≡_};
+ghost use mathlib.Core.Bool.{_&&_, _||_};
 ghost use Prim.Native.Nat.{_<_};
 ghost use lib.Seq.{sets};
 ghost use Rattle.layout.specs.Field.{bytes};
@@ -12,6 +13,17 @@ pub struct Shape {
     pub lenwidth: usize,
     pub ctrat: usize,
     pub ctrwidth: usize,
+}
+
+impl Shape {
+    // The shape of a header that has no field.
+    pub const NONE: Shape = Shape {
+        size: 0,
+        lenat: 0,
+        lenwidth: 0,
+        ctrat: 0,
+        ctrwidth: 0,
+    };
 }
 
 fn wide(x: u8) -> usize
@@ -48,4 +60,35 @@ pub fn put_field(out: &mut [u8], at: usize, width: usize, n: usize)
         return;
     }
     out[at + 1] = (n / 256 % 256) as u8;
+}
+
+// Tests joined by a call: a caller keeps what each test says, which `&&` and `||` lose where their branches meet.
+pub fn both(a: bool, b: bool) -> bool
+    ensures { λ r. ⌜ r ≡ (a && b) ⌝ }
+{
+    if a {
+        return b;
+    }
+    false
+}
+
+pub fn all(a: bool, b: bool, c: bool) -> bool
+    ensures { λ r. ⌜ r ≡ (a && b && c) ⌝ }
+{
+    if a {
+        if b {
+            return c;
+        }
+        return false;
+    }
+    false
+}
+
+pub fn either(a: bool, b: bool) -> bool
+    ensures { λ r. ⌜ r ≡ (a || b) ⌝ }
+{
+    if a {
+        return true;
+    }
+    b
 }

@@ -1,22 +1,14 @@
 -- What was judged decides the answer: why a call is refused, why it is not, and that a refusal changes nothing. Once for every reader and writer.
-use Prim.Native.Nat.{ℕ, _+_, _*_, _<_, _≤_, min}
+use Prim.Native.Nat.{ℕ, _+_, _≤_}
 use native.Mathlib.Omega.{arith}
 use native.Mathlib.Nat.{zero-add}
 use mathlib.Core.Path.{_≡_, refl, sym, _∙_}
-use mathlib.Core.Bool.{Bool, true, false, cond, not, _&&_}
+use mathlib.Core.Bool.{Bool, true, false, cond}
 use mathlib.Core.List.{List}
 use lib.ListN.{length, take, drop}
 use lib.Seq.{sets, sets-eq, take-at, drop-at}
-use lib.Dec.{ltb}
-use borrow.Author.Tests.{ltb-true, ltb-false, lt-ltb, le-ltb}
 use Rattle.layout.specs.Walk.{Out, Out.list, Out.refused}
-use Rattle.packet.specs.declared.Counter.{Counter}
-use Rattle.packet.specs.declared.Reading.{Reading}
-use Rattle.packet.specs.declared.Reading.the-variants as R
-use Rattle.packet.specs.declared.Writing.{Writing}
-use Rattle.packet.specs.declared.Writing.the-variants as W
-use Rattle.packet.specs.Message.{Msg}
-use Rattle.packet.specs.Answer.{mostBytes, Ready, Answer, settled, fewBytes, weighed, NoRoom, NoRoom.small, NoRoom.long}
+use Rattle.packet.specs.Answer.{Answer, settled}
 
 ---- Every call -----------------------------------------------------------------------------------------------------------------
 
@@ -95,60 +87,6 @@ module _ {R E : Type 0} (refuse : ℕ → ℕ → E) (accept : List R → E) (fe
     pub why-accepted : {a : E} (o : Out R) → ((n p : ℕ) → refuse n p ≡ a → ⊥) → settled refuse accept few told lent o .answer ≡ a
         → Settled accept few a o
     why-accepted o differs = accepting differs (reason o)
-
----- Readers and writers --------------------------------------------------------------------------------------------------------
-
-pub apart-read : {state : List Msg → Counter} → Apart R.Refused (λ ms. R.Rows (length ms) (state ms))
-apart-read = record { number = λ e. cc; place = λ e. cc; never = λ e. let z : _≡_ {A = ℕ} 0 1 = cc in omega arith }
-
-pub apart-write : {next : ℕ} → Apart {R = ℕ} W.Refused (λ bs. W.Bytes (length bs) next)
-apart-write = record { number = λ e. cc; place = λ e. cc; never = λ e. let z : _≡_ {A = ℕ} 0 1 = cc in omega arith }
-
--- the test of `stored` holds exactly where there is no room
-module _ (out bs : List ℕ) where
-  pub few-bytes : NoRoom (length out) (length bs) → fewBytes out bs ≡ true
-  few-bytes (small h) = lt-ltb (min (length out) mostBytes) (length bs) (omega arith)
-  few-bytes (long h) = lt-ltb (min (length out) mostBytes) (length bs) (omega arith)
-
-  pub no-room : fewBytes out bs ≡ true → NoRoom (length out) (length bs)
-  no-room e = at (ltb (length out) (length bs)) refl
-    where
-      at : (b : Bool) → ltb (length out) (length bs) ≡ b → NoRoom (length out) (length bs)
-      at true g = small (ltb-true (length out) (length bs) g)
-      at false g = long (omega (arith, ltb-true (min (length out) mostBytes) (length bs) e, ltb-false (length out) (length bs) g))
-
--- what a writer refuses before, each with its reason
-pub data Weighed (sound counter mismatch : Bool) (i n : ℕ) (bs : List ℕ) : Out ℕ → Type 0 where
-  unsound : sound ≡ false → Weighed sound counter mismatch i n bs (refused 1 0)
-  over : counter ≡ false → Weighed sound counter mismatch i n bs (refused 1 0)
-  mismatched : Ready sound counter → mismatch ≡ true → Weighed sound counter mismatch i n bs (refused 2 0)
-  misfit : Ready sound counter → mismatch ≡ false → i < n → Weighed sound counter mismatch i n bs (refused 3 i)
-  fit : Ready sound counter → mismatch ≡ false → n ≤ i → Weighed sound counter mismatch i n bs (list bs)
-
-module _ {sound counter mismatch : Bool} {i n : ℕ} {bs : List ℕ} where
-  pub weighs : {o : Out ℕ} → Weighed sound counter mismatch i n bs o → weighed sound counter mismatch i n bs ≡ o
-  unfolding weighed
-  weighs (unsound e) = rw e
-  weighs (over e) = rw e (at sound)
-    where
-      at : (b : Bool) → cond (not (b && false)) (refused 1 0) (cond mismatch (refused 2 0) (cond (ltb i n) (refused 3 i) (list bs))) ≡ refused 1 0
-      at true = refl
-      at false = refl
-  weighs (mismatched r e) = rw (r .setting, r .counter, e)
-  weighs (misfit r e l) = rw (r .setting, r .counter, e, lt-ltb i n l)
-  weighs (fit r e l) = rw (r .setting, r .counter, e, le-ltb i n l)
-
-pub why-weighed : (sound counter mismatch : Bool) (i n : ℕ) (bs : List ℕ)
-    → Weighed sound counter mismatch i n bs (weighed sound counter mismatch i n bs)
-unfolding weighed
-why-weighed false counter mismatch i n bs = unsound refl
-why-weighed true false mismatch i n bs = over refl
-why-weighed true true true i n bs = mismatched (record { setting = refl; counter = refl }) refl
-why-weighed true true false i n bs = at (ltb i n) refl
-  where
-    at : (b : Bool) → ltb i n ≡ b → Weighed true true false i n bs (cond b (refused 3 i) (list bs))
-    at true g = misfit (record { setting = refl; counter = refl }) refl (ltb-true i n g)
-    at false g = fit (record { setting = refl; counter = refl }) refl (ltb-false i n g)
 
 ---- What was lent --------------------------------------------------------------------------------------------------------------
 

@@ -6,7 +6,9 @@ use mathlib.Core.Bool.{Bool, true, false, cond, not, _||_}
 use mathlib.Core.List.{List, [], _∷_, map}
 use lib.ListN.{length, getD, take, drop, length-drop, length-take}
 use lib.Dec.{ltb, eqb}
-use borrow.Author.Tests.{ltb-true, ltb-false, eqb-true, eqb-false, lt-ltb, le-ltb, eq-eqb, ne-eqb}
+use borrow.Author.Tests.{ltb-true, ltb-false, eqb-true, eqb-false}
+use Rattle.layout.proofs.TestLaws.{Tells, Tells.passes, Tells.fails, why-passed, why-failed, passed, failed}
+use Rattle.packet.specs.Limit.{mostLengths}
 use Rattle.packet.specs.Packets.{sum, packets, mismatched, Matched, Mismatch, Mismatch.many, Mismatch.differs, first}
 
 ---- Lengths --------------------------------------------------------------------------------------------------------------------
@@ -25,43 +27,26 @@ unfolding packets
 length-packets [] bs = refl
 length-packets (n ∷ ns) bs = ap suc (length-packets ns (drop n bs))
 
+-- the test on the lengths, as what it tells
 module _ (ns bs : List ℕ) where
-  pub is-mismatched : Mismatch ns bs → mismatched ns bs ≡ true
+  pub mismatch-tells : Tells (Mismatch ns bs) (Matched ns bs) (mismatched ns bs)
   unfolding mismatched
-  is-mismatched (many h) = rw (lt-ltb 4096 (length ns) h)
-  is-mismatched (differs h) = rw (ne-eqb (sum ns) (length bs) h) (or-true (ltb 4096 (length ns)))
+  mismatch-tells = at (ltb mostLengths (length ns)) (eqb (sum ns) (length bs)) refl refl
     where
-      or-true : (a : Bool) → a || true ≡ true
-      or-true true = refl
-      or-true false = refl
+      at : (a b : Bool) → ltb mostLengths (length ns) ≡ a → eqb (sum ns) (length bs) ≡ b → Tells (Mismatch ns bs) (Matched ns bs) (a || not b)
+      at true b ga gb = passes (many (ltb-true mostLengths (length ns) ga))
+      at false true ga gb = fails (record { few = ltb-false mostLengths (length ns) ga; sum = eqb-true (sum ns) (length bs) gb })
+      at false false ga gb = passes (differs (eqb-false (sum ns) (length bs) gb))
 
-  pub is-matched : Matched ns bs → mismatched ns bs ≡ false
-  unfolding mismatched
-  is-matched m = rw (le-ltb 4096 (length ns) (m .few), eq-eqb (sum ns) (length bs) (m .sum))
-
-  pub why-mismatched : mismatched ns bs ≡ true → Mismatch ns bs
-  unfolding mismatched
-  why-mismatched = at (ltb 4096 (length ns)) (eqb (sum ns) (length bs)) refl refl
-    where
-      at : (a b : Bool) → ltb 4096 (length ns) ≡ a → eqb (sum ns) (length bs) ≡ b → a || not b ≡ true → Mismatch ns bs
-      at true b ga gb e = many (ltb-true 4096 (length ns) ga)
-      at false true ga gb e = let z : _≡_ {A = ℕ} 0 1 = cc in absurd (omega arith)
-      at false false ga gb e = differs (eqb-false (sum ns) (length bs) gb)
-
-  pub why-matched : mismatched ns bs ≡ false → Matched ns bs
-  unfolding mismatched
-  why-matched = at (ltb 4096 (length ns)) (eqb (sum ns) (length bs)) refl refl
-    where
-      at : (a b : Bool) → ltb 4096 (length ns) ≡ a → eqb (sum ns) (length bs) ≡ b → a || not b ≡ false → Matched ns bs
-      at true b ga gb e = let z : _≡_ {A = ℕ} 0 1 = cc in absurd (omega arith)
-      at false true ga gb e = record { few = ltb-false 4096 (length ns) ga; sum = eqb-true (sum ns) (length bs) gb }
-      at false false ga gb e = let z : _≡_ {A = ℕ} 0 1 = cc in absurd (omega arith)
+  pub not-both : Mismatch ns bs → Matched ns bs → ⊥
+  not-both (many h) m = omega (arith, m .few)
+  not-both (differs h) m = h (m .sum)
 
 ---- The least index ------------------------------------------------------------------------------------------------------------
 
 module _ {A : Type 0} (f : A → Bool) (d : A) where
   -- a test passes at none of the first i entries
-  abbrev pub NoneBefore : List A → ℕ → Type 0
+  abbrev NoneBefore : List A → ℕ → Type 0
   NoneBefore xs i = (j : ℕ) → j < i → f (getD xs j d) ≡ false
 
   tail-none : (x : A) (xs : List A) (i : ℕ) → NoneBefore (x ∷ xs) (suc i) → NoneBefore xs i
@@ -72,7 +57,7 @@ module _ {A : Type 0} (f : A → Bool) (d : A) where
   cons-none x xs i e h (suc j) l = h j (omega arith)
 
   -- the least index is one at which the test passes, and none before it is
-  pub first-before : (xs : List A) → NoneBefore xs (first f xs)
+  first-before : (xs : List A) → NoneBefore xs (first f xs)
   unfolding first
   first-before [] = λ j l. absurd (omega arith)
   first-before (x ∷ xs) = at (f x) refl (first-before xs)
@@ -81,7 +66,7 @@ module _ {A : Type 0} (f : A → Bool) (d : A) where
       at true e h = λ j l. absurd (omega arith)
       at false e h = cons-none x xs (first f xs) e h
 
-  pub first-passes : (xs : List A) → first f xs < length xs → f (getD xs (first f xs) d) ≡ true
+  first-passes : (xs : List A) → first f xs < length xs → f (getD xs (first f xs) d) ≡ true
   unfolding first
   first-passes [] = λ l. absurd (omega arith)
   first-passes (x ∷ xs) = at (f x) refl (first-passes xs)
@@ -92,24 +77,47 @@ module _ {A : Type 0} (f : A → Bool) (d : A) where
       at false e h l = h (omega arith)
 
   -- and the only such index
-  pub first-is : (xs : List A) (i : ℕ) → i < length xs → NoneBefore xs i → f (getD xs i d) ≡ true → first f xs ≡ i
+  first-is : (xs : List A) (i : ℕ) → i < length xs → NoneBefore xs i → f (getD xs i d) ≡ true → first f xs ≡ i
   unfolding first
   first-is [] i l h e = absurd (omega arith)
   first-is (x ∷ xs) zero l h e = rw e
   first-is (x ∷ xs) (suc i) l h e = rw (h 0 (omega arith)) (ap suc (first-is xs i (omega arith) (tail-none x xs i h) e))
 
-  pub first-none : (xs : List A) → NoneBefore xs (length xs) → first f xs ≡ length xs
+  first-none : (xs : List A) → NoneBefore xs (length xs) → first f xs ≡ length xs
   unfolding first
   first-none [] h = refl
   first-none (x ∷ xs) h = rw (h 0 (omega arith)) (ap suc (first-none xs (tail-none x xs (length xs) h)))
 
+-- the same of a test that tells the entries with N from those with P
+module _ {A : Type 0} {N P : A → Type 0} (f : A → Bool) (tells : (x : A) → Tells (N x) (P x) (f x)) (d : A) (xs : List A) where
+  pub fit-before : (i : ℕ) → i ≤ first f xs → (j : ℕ) → j < i → P (getD xs j d)
+  fit-before i h j l = why-failed (tells (getD xs j d)) (first-before f d xs j (omega arith))
+
+  pub unfit-there : first f xs < length xs → N (getD xs (first f xs) d)
+  unfit-there l = why-passed (tells (getD xs (first f xs) d)) (first-passes f d xs l)
+
+  module _ (never : (x : A) → N x → P x → ⊥) where
+    none-before : (i : ℕ) → ((j : ℕ) → j < i → P (getD xs j d)) → NoneBefore f d xs i
+    none-before i h j l = failed (never (getD xs j d)) (tells (getD xs j d)) (h j l)
+
+    pub index-is : (i : ℕ) → i < length xs → ((j : ℕ) → j < i → P (getD xs j d)) → N (getD xs i d) → first f xs ≡ i
+    index-is i l h u = first-is f d xs i l (none-before i h) (passed (never (getD xs i d)) (tells (getD xs i d)) u)
+
+    pub index-none : ((j : ℕ) → j < length xs → P (getD xs j d)) → first f xs ≡ length xs
+    index-none h = first-none f d xs (none-before (length xs) h)
+
 ---- Every entry ----------------------------------------------------------------------------------------------------------------
 
-module _ {A : Type 0} (P : A → Type 0) (d : A) where
+module _ {A : Type 0} (P : A → Type 0) where
   abbrev pub Each : List A → Type 0
   Each [] = Unit {0}
   Each (x ∷ xs) = P x × Each xs
 
-  pub each : (xs : List A) → ((j : ℕ) → j < length xs → P (getD xs j d)) → Each xs
-  each [] h = tt
-  each (x ∷ xs) h = (h 0 (omega arith), each xs (λ j l. h (suc j) (omega arith)))
+  pub each : (d : A) (xs : List A) → ((j : ℕ) → j < length xs → P (getD xs j d)) → Each xs
+  each d [] h = tt
+  each d (x ∷ xs) h = (h 0 (omega arith), each d xs (λ j l. h (suc j) (omega arith)))
+
+-- what holds of every length holds of every packet's
+pub each-length : (P : ℕ → Type 0) (bs : List (List ℕ)) → Each P (map length bs) → Each (λ b. P (length b)) bs
+each-length P [] h = tt
+each-length P (b ∷ bs) h = (h .0, each-length P bs (h .1))

@@ -13,16 +13,13 @@ use Rattle.packet.specs.declared.Reading.{Reading}
 use Rattle.packet.specs.declared.Reading.the-variants as R
 use Rattle.packet.specs.declared.Writing.{Writing}
 use Rattle.packet.specs.declared.Writing.the-variants as W
+use Rattle.packet.specs.Limit.{mostBytes}
 use Rattle.packet.specs.Message.{Msg}
 
 -- neither the setting nor the counter is refused with 1
 pub record Ready (sound held : Bool) : Type 0 where
   pub setting : sound ≡ true
   pub counter : held ≡ true
-
--- the longest transfer
-abbrev pub mostBytes : ℕ
-mostBytes = 262144
 
 ---- The numbers and values of an answer ----------------------------------------------------------------------------------------
 
@@ -69,12 +66,14 @@ module _ {R E : Type 0} where
   settled refuse accept few told lent (list xs) =
       cond (few xs) (record { answer = refuse 4 0; lent = lent }) (record { answer = accept xs; lent = sets lent 0 (told xs) })
 
--- A reader with these rows and this state for its messages: fewer than five numbers for each row are too few
+-- A reader with these rows and this state for its messages: 1 for the counter stands beside what was judged, and fewer than five numbers for
+-- each row are too few
 abbrev pub fewNumbers : List ℕ → List Msg → Bool
 fewNumbers rows ms = ltb (length rows) (5 * length ms)
 
-abbrev pub answered : (List Msg → List ℕ) → (List Msg → Counter) → List ℕ → Out Msg → Answer Reading
-answered table state rows = settled R.Refused (λ ms. R.Rows (length ms) (state ms)) (fewNumbers rows) table rows
+abbrev pub answered : (List Msg → List ℕ) → (List Msg → Counter) → List ℕ → (counter : Bool) → Out Msg → Answer Reading
+answered table state rows counter o =
+    settled R.Refused (λ ms. R.Rows (length ms) (state ms)) (fewNumbers rows) table rows (cond counter o (refused 1 0))
 
 -- A writer with this next counter: the output is too small, or would exceed the longest transfer
 abbrev pub fewBytes : List ℕ → List ℕ → Bool

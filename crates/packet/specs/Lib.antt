@@ -1,7 +1,9 @@
 pub mod Answer
 pub mod Counter
 pub mod Kind
+pub mod Limit
 pub mod Message
 pub mod Packets
 pub mod Part
 pub mod Row
+pub mod Seen

@@ -5,6 +5,7 @@ use mathlib.Core.Bool.{Bool, cond, not, _||_}
 use mathlib.Core.List.{List, [], _∷_}
 use lib.ListN.{length, take, drop}
 use lib.Dec.{ltb, eqb}
+use Rattle.packet.specs.Limit.{mostLengths}
 
 abbrev pub sum : List ℕ → ℕ
 sum [] = 0
@@ -15,16 +16,16 @@ unfoldable pub packets : List ℕ → List ℕ → List (List ℕ)
 packets [] bs = []
 packets (n ∷ ns) bs = take n bs ∷ packets ns (drop n bs)
 
--- over 4,096 lengths, or their sum differs from the bytes
+-- too many lengths, or their sum differs from the bytes
 unfoldable pub mismatched : List ℕ → List ℕ → Bool
-mismatched ns bs = ltb 4096 (length ns) || not (eqb (sum ns) (length bs))
+mismatched ns bs = ltb mostLengths (length ns) || not (eqb (sum ns) (length bs))
 
 pub record Matched (ns bs : List ℕ) : Type 0 where
-  pub few : length ns ≤ 4096
+  pub few : length ns ≤ mostLengths
   pub sum : sum ns ≡ length bs
 
 pub data Mismatch (ns bs : List ℕ) : Type 0 where
-  many : 4096 < length ns → Mismatch ns bs
+  many : mostLengths < length ns → Mismatch ns bs
   differs : (sum ns ≡ length bs → ⊥) → Mismatch ns bs
 
 -- the least index at which a test passes; the length where it passes at none

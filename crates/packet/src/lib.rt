@@ -122,9 +122,8 @@ pub fn kind(direction: u32, packet: &[u8]) -> u32
 pub fn part_check(input: &[u8], place: u32, length: u32) -> Checked
     ensures { λ r. ⌜ r ≡ checkOf (now (input .entry)) place length ⌝ }
 {
-    let from = place as usize;
-    let to = from + length as usize;
-    if to <= input.len() {
+    let end = place as usize + length as usize;
+    if end <= input.len() {
         return Checked::Inside;
     }
     Checked::Refused(5, place)

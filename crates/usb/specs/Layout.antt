@@ -7,7 +7,7 @@ use mathlib.Core.List.{List, [], _∷_, _++_}
 use lib.ListN.{length}
 use Rattle.layout.specs.Field.{says, Kind.LEN, Kind.CTR}
 use Rattle.packet.specs.Message.{Msg}
-use Rattle.packet.specs.Answer.{mostBytes}
+use Rattle.packet.specs.Limit.{mostBytes}
 use Rattle.usb.specs.declared.Setting.{Setting}
 use Rattle.usb.specs.Setting.{fields, H, sound}
 
@@ -36,7 +36,7 @@ pub record Reaches (s : Setting) (q : ℕ) (r bs : List ℕ) : Type 0 where
 pub data Rest (s : Setting) (q : ℕ) (r : List ℕ) : Type 0 where
   any : s .packing ≡ 0 → 0 < q % s .datapacket → Rest s q r
   few : 0 < s .packing → length r < H s → Rest s q r
-  zero : 0 < s .packing → H s ≤ length r → says LEN (fields s) r 0 ≡ 0 → Rest s q r
+  zeroed : 0 < s .packing → H s ≤ length r → says LEN (fields s) r 0 ≡ 0 → Rest s q r
 
 -- The bytes from place q on hold these messages, up to place p, where the bytes cs are left
 pub data Laid (s : Setting) (p : ℕ) (cs : List ℕ) : ℕ → List Msg → List ℕ → Type 0 where

@@ -10,12 +10,13 @@ use Rattle.packet.specs.declared.At.{At}
 use Rattle.packet.specs.declared.Counter.{Counter}
 use Rattle.packet.specs.declared.Seen.{Seen}
 use Rattle.packet.specs.declared.Seen.the-variants as S
-use Rattle.packet.specs.Message.{Msg, asStep}
+use Rattle.packet.specs.Message.{Msg}
+use Rattle.packet.specs.Seen.{asStep}
 use Rattle.packet.specs.Counter.{valid}
 use Rattle.packet.specs.Row.{table, behind}
 use Rattle.packet.specs.declared.Reading.{Reading}
-use Rattle.packet.specs.declared.Reading.the-variants as R
-use Rattle.packet.specs.Answer.{Answer, answered, mostBytes}
+use Rattle.packet.specs.Answer.{Answer, answered}
+use Rattle.packet.specs.Limit.{mostBytes}
 use Rattle.usb.specs.declared.Setting.{Setting}
 use Rattle.usb.specs.declared.Verdict.{Verdict}
 use Rattle.usb.specs.declared.Verdict.the-variants.{Stop, TakeRest, TakeMessage, Refuse}
@@ -41,11 +42,15 @@ choose false false false d true f = Refuse 3
 choose false false false d false true = Refuse 5
 choose false false false d false false = TakeMessage
 
--- by numbers alone: o bytes into the data packet, `left` bytes to the end of the transfer, LEN n
+-- the bytes that a message may have, o bytes into the data packet and with `left` bytes to the end of the transfer
+abbrev pub room : Setting → ℕ → ℕ → ℕ
+room s o left = cond (ltb (s .packing) 2) (min (s .datapacket - o) left) left
+
+-- by numbers alone, with LEN n
 unfoldable pub judge : Setting → ℕ → ℕ → ℕ → Verdict
 judge s o left n =
     choose (eqb left 0) (eqb (s .packing) 0 && ltb 0 o) (eqb n 0) (eqb (s .packing) 0) (ltb (s .longest) n)
-    (ltb (cond (ltb (s .packing) 2) (min (s .datapacket - o) left) left) (whole s n))
+    (ltb (room s o left) (whole s n))
 
 -- a place, and the end of its data packet
 abbrev pub stand : Setting → ℕ → At
@@ -78,6 +83,4 @@ judged s t =
 
 -- 1 for the state stands beside 1 for the setting, 4 comes last
 unfoldable pub readOf : Setting → List ℕ → Counter → List ℕ → Answer Reading
-readOf s t c rows =
-    let r = answered (table (s .direction) (W s) c) (behind (W s) c) rows (judged s t) in
-    cond (valid (W s) c) r (record { answer = R.Refused 1 0; lent = rows })
+readOf s t c rows = answered (table (s .direction) (W s) c) (behind (W s) c) rows (valid (W s) c) (judged s t)

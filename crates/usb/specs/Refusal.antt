@@ -10,7 +10,8 @@ use Rattle.packet.specs.declared.Counter.{Counter}
 use Rattle.packet.specs.Message.{Msg}
 use Rattle.packet.specs.Counter.{valid, holds}
 use Rattle.packet.specs.Packets.{Matched, Mismatch, packets}
-use Rattle.packet.specs.Answer.{mostBytes, Ready, NoRoom}
+use Rattle.packet.specs.Answer.{Ready, NoRoom}
+use Rattle.packet.specs.Limit.{mostBytes}
 use Rattle.usb.specs.declared.Setting.{Setting}
 use Rattle.usb.specs.Setting.{fields, H, W, whole, sound}
 use Rattle.usb.specs.Layout.{Laid, Transfer}
@@ -37,7 +38,7 @@ pub data Broken (s : Setting) (q : ℕ) (bs : List ℕ) : ℕ → Type 0 where
   past : (n : ℕ) → Header s q bs n → n ≤ s .longest → Past s q bs n → Broken s q bs 5
   -- a single data packet is shorter than H, or has LEN 0
   short : s .packing ≡ 0 → q % s .datapacket ≡ 0 → 0 < length bs → min (s .datapacket) (length bs) < H s → Broken s q bs 6
-  zero : s .packing ≡ 0 → q % s .datapacket ≡ 0 → H s ≤ length bs → says LEN (fields s) bs 0 ≡ 0 → Broken s q bs 6
+  zeroed : s .packing ≡ 0 → q % s .datapacket ≡ 0 → H s ≤ length bs → says LEN (fields s) bs 0 ≡ 0 → Broken s q bs 6
 
 -- neither the setting nor the state is refused
 abbrev pub Fine : Setting → Counter → Type 0

@@ -17,11 +17,13 @@ use Rattle.usb.specs.Setting.{fields, H, W, whole, sound}
 
 ---- The bytes ------------------------------------------------------------------------------------------------------------------
 
--- n free bytes; in multiple and streaming packing with a zero LEN in front where a header fits
+-- n bytes that start with a zero LEN
+abbrev pub zeroBytes : Setting → ℕ → ℕ → List ℕ
+zeroBytes s fill n = bytes (width LEN (fields s)) 0 ++ replicate (n - width LEN (fields s)) fill
+
+-- a rest of n bytes: free, but for a zero LEN in multiple and streaming packing where a header fits
 unfoldable pub restBytes : Setting → ℕ → ℕ → List ℕ
-restBytes s fill n =
-    cond (eqb (s .packing) 0 || ltb n (H s)) (replicate n fill)
-    (bytes (width LEN (fields s)) 0 ++ replicate (n - width LEN (fields s)) fill)
+restBytes s fill n = cond (eqb (s .packing) 0 || ltb n (H s)) (replicate n fill) (zeroBytes s fill n)
 
 -- header, packet and tail
 abbrev pub messageBytes : Setting → ℕ → ℕ → List ℕ → List ℕ

@@ -1,8 +1,14 @@
 // USB endpoints: their settings, and the table of their headers.
 ghost use mathlib.Core.Path.{_≡_};
-ghost use Rattle.layout.specs.Field.{shape as shapeOf};
+ghost use mathlib.Core.Bool.{_&&_, _||_};
+ghost use Prim.Native.Nat.{_≤_, _%_, _^_};
+ghost use lib.Dec.{leb, ltb, eqb};
+ghost use Rattle.layout.specs.Field.{shape as shapeOf, width, Kind.LEN};
 ghost use Rattle.usb.specs.Setting.{header as headerOf, sound as soundOf};
 use layout::Shape;
+use layout::all;
+use layout::both;
+use layout::either;
 
 // Header type, packing, alignment A, data packet size M, longest packet X, direction.
 #[repr(C)]
@@ -23,48 +29,77 @@ pub enum Verdict {
     Refuse(u32),
 }
 
+// A header's line in the table: size, LEN's place and width, CTR's place and width.
+struct Line(usize, usize, usize, usize, usize);
+
 // The headers by number.
-const SHAPES: [Shape; 6] = [
-    Shape {
-        size: 1,
-        lenat: 0,
-        lenwidth: 1,
-        ctrat: 1,
-        ctrwidth: 0,
-    },
-    Shape {
-        size: 2,
-        lenat: 0,
-        lenwidth: 1,
-        ctrat: 1,
-        ctrwidth: 1,
-    },
-    Shape {
-        size: 2,
-        lenat: 0,
-        lenwidth: 1,
-        ctrat: 2,
-        ctrwidth: 0,
-    },
-    Shape {
-        size: 2,
-        lenat: 0,
-        lenwidth: 2,
-        ctrat: 2,
-        ctrwidth: 0,
-    },
-    Shape {
-        size: 4,
-        lenat: 0,
-        lenwidth: 2,
-        ctrat: 2,
-        ctrwidth: 2,
-    },
-    Shape {
-        size: 4,
-        lenat: 0,
-        lenwidth: 2,
-        ctrat: 4,
-        ctrwidth: 0,
-    },
+const LINES: [Line; 6] = [
+    Line(1, 0, 1, 1, 0),
+    Line(2, 0, 1, 1, 1),
+    Line(2, 0, 1, 2, 0),
+    Line(2, 0, 2, 2, 0),
+    Line(4, 0, 2, 2, 2),
+    Line(4, 0, 2, 4, 0),
 ];
+
+// The shape of a header by its number; of no other number has it any field.
+pub fn shape(header: u32) -> Shape
+    ensures { λ r. ⌜ r ≡ shapeOf (headerOf header) ⌝ }
+{
+    let i = header as usize;
+    if i < 6 {
+        let l = LINES[i];
+        return Shape {
+            size: l.0,
+            lenat: l.1,
+            lenwidth: l.2,
+            ctrat: l.3,
+            ctrwidth: l.4,
+        };
+    }
+    Shape::NONE
+}
+
+fn aligned(a: u32) -> bool
+    ensures { λ r. ⌜ r ≡ (eqb a 1 || eqb a 2 || eqb a 4 || eqb a 8) ⌝ }
+{
+    either(either(either(a == 1, a == 2), a == 4), a == 8)
+}
+
+// 1,024 bytes are a limit of this product.
+fn sized(m: u32) -> bool
+    ensures { λ r. ⌜ r ≡ (leb 8 m && leb m 1024 && eqb (m % 8) 0) ⌝ }
+{
+    all(8 <= m, m <= 1024, m % 8 == 0)
+}
+
+// How many numbers a field of at most two bytes can hold.
+fn numbers(width: usize) -> u32
+    requires { ⌜ width ≤ 2 ⌝ }
+    ensures { λ r. ⌜ r ≡ 256 ^ width ⌝ }
+{
+    match width {
+        0 => 1,
+        1 => 256,
+        _ => 65536,
+    }
+}
+
+// A longest packet whose length the header's LEN can say.
+fn sayable(header: u32, x: u32) -> bool
+    ensures { λ r. ⌜ r ≡ (leb 8 x && ltb x (256 ^ width LEN (headerOf header))) ⌝ }
+{
+    let k = shape(header);
+    both(8 <= x, x < numbers(k.lenwidth))
+}
+
+// Whether the setting keeps every rule.
+pub fn sound(s: Setting) -> bool
+    ensures { λ r. ⌜ r ≡ soundOf s ⌝ }
+{
+    let ok = both(s.header < 6, s.packing < 3);
+    let ok = both(ok, aligned(s.align));
+    let ok = both(ok, sized(s.datapacket));
+    let ok = both(ok, sayable(s.header, s.longest));
+    both(ok, s.direction < 2)
+}

@@ -1,0 +1,27 @@
+-- A header goes with one alignment or with two, of which the least is not 0: one computed test over the whole table.
+use Prim.Native.Nat.{ℕ}
+use mathlib.Core.Path.{_≡_, refl}
+use mathlib.Core.Bool.{Bool, true, false, _&&_, _||_, or-false, or-self}
+use mathlib.Core.List.{List, [], _∷_}
+use lib.Dec.{ltb, eqb}
+use Rattle.layout.proofs.TableLaws.{all-given}
+use Rattle.flexray.specs.Setting.{headers, header, among}
+use Rattle.flexray.specs.Table.{first, last}
+
+abbrev few : List ℕ → Bool
+few [] = true
+few (a ∷ []) = ltb 0 a
+few (a ∷ b ∷ []) = ltb 0 a
+few (a ∷ b ∷ c ∷ bs) = false
+
+among-few : (a : ℕ) (bs : List ℕ) → few bs ≡ true → among a bs ≡ (ltb 0 (first bs) && (eqb a (first bs) || eqb a (last bs)))
+among-few a [] e = refl
+among-few a (x ∷ []) e = simp (e, or-false, or-self)
+among-few a (x ∷ y ∷ []) e = simp (e, or-false)
+among-few a (x ∷ y ∷ z ∷ bs) e = cc
+
+pub among-header : (n a : ℕ)
+    → among a (header n .aligns)
+    ≡ (ltb 0 (first (header n .aligns)) && (eqb a (first (header n .aligns)) || eqb a (last (header n .aligns))))
+unfolding headers
+among-header n a = among-few a (header n .aligns) (all-given (λ h. few (h .aligns)) (header 9) headers n refl refl)

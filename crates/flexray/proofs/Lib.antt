@@ -1,0 +1,10 @@
+pub mod AlignLaws
+pub mod FitLaws
+pub mod FrameLaws
+pub mod FurtherLaws
+pub mod ReadLaws
+pub mod RefusalLaws
+pub mod SeenLaws
+pub mod SettingLaws
+pub mod WayLaws
+pub mod WriteLaws

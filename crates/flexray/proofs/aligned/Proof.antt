@@ -1,0 +1,11 @@
+use borrow.Author.Needs.{needs}
+use Rattle.flexray.proofs.AlignLaws.{among-header}
+use Rattle.flexray.proofs.aligned.Statement.{statement}
+use Rattle.flexray.proofs.aligned.Tie as tie
+
+returns : tie.Need-returns
+returns c =
+    rw (c .both .ensures, c .before .either .ensures, c .before .before .before .before .before .listed .ensures, among-header)
+
+pub aligned-spec : {M : Type 1} → statement M
+aligned-spec = tie.close (tie.spec (λ c κs. search needs) (λ c κs. search needs) (λ c κs. search needs) returns)

@@ -1,0 +1,13 @@
+-- What was seen at a place, as a step of the walk.
+use mathlib.Core.List.{List}
+use Prim.Native.Nat.{ℕ}
+use Rattle.layout.specs.Walk.{Step, Step.done, Step.entry, Step.pass, Step.fault}
+use Rattle.packet.specs.declared.Seen.{Seen}
+use Rattle.packet.specs.declared.Seen.the-variants.{Nothing, Message, Rest, Refused}
+use Rattle.packet.specs.Message.{Msg, message}
+
+abbrev pub asStep : List ℕ → Seen → Step Msg
+asStep t Nothing = done
+asStep t (Message m a) = entry (message t m) (a .q)
+asStep t (Rest a) = pass (a .q)
+asStep t (Refused n p) = fault n p

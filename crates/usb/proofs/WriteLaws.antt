@@ -1,0 +1,139 @@
+-- Demand 2 for the USB writer: what it writes is laid out as the packets that were given and reads back as the same list; and each refusal,
+-- with its number and place, is given exactly when document 01's table says so.
+use Prim.Native.Nat.{ℕ, _+_, _<_, _≤_}
+use native.Mathlib.Omega.{arith}
+use native.Mathlib.Nat.{zero-add}
+use mathlib.Core.Path.{_≡_, refl, sym, ap, _∙_}
+use mathlib.Core.Bool.{Bool, true, false, _&&_, _||_}
+use mathlib.Core.Logic.{_↔_}
+use mathlib.Core.List.{List, [], map}
+use lib.ListN.{length, getD, take, drop}
+use lib.Dec.{ltb, eqb}
+use borrow.Author.Tests.{ltb-true, ltb-false, eqb-true, eqb-false, lt-ltb, le-ltb, eq-eqb, ne-eqb}
+use Rattle.layout.specs.Walk.{Out, Out.list, Out.refused}
+use Rattle.layout.proofs.TestLaws.{Tells, Tells.passes, Tells.fails, why-passed, why-failed, passed, failed}
+use Rattle.packet.specs.declared.Writing.the-variants as W
+use Rattle.packet.specs.Message.{Msg}
+use Rattle.packet.specs.Counter.{holds, later}
+use Rattle.packet.specs.Packets.{packets, mismatched, first, Matched}
+use Rattle.packet.specs.Limit.{mostBytes}
+use Rattle.packet.proofs.WriterLaws.{Unwritten, Written, why-written, wrote-front, kept-past, kept-out, exactly-unwritten}
+use Rattle.packet.proofs.PacketsLaws.{packets-lengths, mismatch-tells, not-both, fit-before, unfit-there, index-is, index-none, each, each-length}
+use Rattle.usb.specs.declared.Setting.{Setting}
+use Rattle.usb.specs.Setting.{W, whole, sound}
+use Rattle.usb.specs.Layout.{Transfer}
+use Rattle.usb.specs.Reading.{judged}
+use Rattle.usb.specs.Writing.{write, placed, misfit, composed, writeOf}
+use Rattle.usb.specs.Refusal.{Fit, Unfit, Willing, WriteRefusal}
+use Rattle.usb.proofs.SettingLaws.{Good, good}
+use Rattle.usb.proofs.ReadLaws.{read-complete}
+use Rattle.usb.proofs.WrittenLaws.{laid-out}
+
+---- Lengths that fit -----------------------------------------------------------------------------------------------------------
+
+module _ (s : Setting) (n : ℕ) where
+  misfit-tells : Tells (Unfit s n) (Fit s n) (misfit s n)
+  unfolding misfit
+  misfit-tells = at (eqb n 0) (ltb (s .longest) n) (ltb (s .packing) 2) (ltb (s .datapacket) (whole s n)) refl refl refl refl
+    where
+      fitting : eqb n 0 ≡ false → ltb (s .longest) n ≡ false → (s .packing < 2 → whole s n ≤ s .datapacket) → Fit s n
+      fitting ga gb h = record { least = omega (arith, eqb-false n 0 ga); most = ltb-false (s .longest) n gb; within = h }
+
+      at : (a b c d : Bool) → eqb n 0 ≡ a → ltb (s .longest) n ≡ b → ltb (s .packing) 2 ≡ c → ltb (s .datapacket) (whole s n) ≡ d
+          → Tells (Unfit s n) (Fit s n) (a || b || (c && d))
+      at true b c d ga gb gc gd = passes (Unfit.empty (eqb-true n 0 ga))
+      at false true c d ga gb gc gd = passes (Unfit.over (ltb-true (s .longest) n gb))
+      at false false true true ga gb gc gd = passes (Unfit.wide (ltb-true (s .packing) 2 gc) (ltb-true (s .datapacket) (whole s n) gd))
+      at false false true false ga gb gc gd = fails (fitting ga gb (λ z. ltb-false (s .datapacket) (whole s n) gd))
+      at false false false d ga gb gc gd = fails (fitting ga gb (λ z. absurd (omega (arith, ltb-false (s .packing) 2 gc))))
+
+  not-both-fit : Unfit s n → Fit s n → ⊥
+  not-both-fit (Unfit.empty e) f = omega (arith, f .least)
+  not-both-fit (Unfit.over l) f = omega (arith, f .most)
+  not-both-fit (Unfit.wide p l) f = omega (arith, f .within p)
+
+---- What was written -----------------------------------------------------------------------------------------------------------
+
+module _ (s : Setting) (bs ns : List ℕ) (c fill : ℕ) (full : Bool) (out : List ℕ) where
+  abbrev bytes : List ℕ
+  bytes = write s fill full 0 c (packets ns bs)
+
+  abbrev index : ℕ
+  index = first (misfit s) ns
+
+  abbrev after : ℕ
+  after = later (W s) (length ns) c
+
+  accepted : {k d : ℕ} → writeOf s bs ns c fill full out .answer ≡ W.Bytes k d
+      → Written (sound s) (holds (W s) c) (mismatched ns bs) index (length ns) bytes (length out) after k d
+  unfolding writeOf composed
+  accepted e = why-written (sound s) (holds (W s) c) (mismatched ns bs) index (length ns) bytes out after e
+
+  -- what stands at the front of the output is what was composed, and the rest of the output is as it was
+  pub written-front : (k d : ℕ) → writeOf s bs ns c fill full out .answer ≡ W.Bytes k d
+      → take k (writeOf s bs ns c fill full out .lent) ≡ write s fill full 0 c (packets ns bs)
+  unfolding writeOf composed
+  written-front k d e = wrote-front (sound s) (holds (W s) c) (mismatched ns bs) index (length ns) bytes out after (accepted e)
+
+  pub written-past : (k d : ℕ) → writeOf s bs ns c fill full out .answer ≡ W.Bytes k d
+      → drop k (writeOf s bs ns c fill full out .lent) ≡ drop k out
+  unfolding writeOf composed
+  written-past k d e = kept-past (sound s) (holds (W s) c) (mismatched ns bs) index (length ns) bytes out after (accepted e)
+
+  -- what the writer makes is laid out as its packets, with their counters
+  pub written-laid : (k d : ℕ) → writeOf s bs ns c fill full out .answer ≡ W.Bytes k d
+      → Transfer s (placed s 0 c (packets ns bs)) (take k (writeOf s bs ns c fill full out .lent))
+  written-laid k d e =
+      let w = accepted e in
+      let m : Matched ns bs = why-failed (mismatch-tells ns bs) (w .matched) in
+      let f = each (Fit s) 0 ns (fit-before (misfit s) (misfit-tells s) 0 ns (length ns) (w .fit)) in
+      let fits = each-length (Fit s) (packets ns bs) (rw (packets-lengths ns bs (m .sum)) f) in
+      let g = good s (w .ready .setting) in
+      rw (written-front k d e)
+      (record {
+        setting = w .ready .setting;
+        long = w .most;
+        laid = laid-out s g fill full 0 c (length bytes) (packets ns bs) fits (w .ready .counter) (omega arith);
+      })
+
+  -- and reads back as the same list
+  pub round-trip : (k d : ℕ) → writeOf s bs ns c fill full out .answer ≡ W.Bytes k d
+      → judged s (take k (writeOf s bs ns c fill full out .lent)) ≡ list (placed s 0 c (packets ns bs))
+  round-trip k d e =
+      read-complete s (take k (writeOf s bs ns c fill full out .lent)) (placed s 0 c (packets ns bs)) (written-laid k d e)
+
+  ---- Refused exactly when -------------------------------------------------------------------------------------------------------
+
+  by-table : {n p : ℕ} → Unwritten (sound s) (holds (W s) c) (mismatched ns bs) index (length ns) bytes (length out) n p
+      → WriteRefusal s bs ns c fill full (length out) n p
+  by-table (Unwritten.unsound e) = WriteRefusal.setting e
+  by-table (Unwritten.over e) = WriteRefusal.counter e
+  by-table (Unwritten.mismatched r m) = WriteRefusal.mismatch r (why-passed (mismatch-tells ns bs) m)
+  by-table (Unwritten.misfit r m l) =
+      WriteRefusal.unfit r (why-failed (mismatch-tells ns bs) m) l
+      (fit-before (misfit s) (misfit-tells s) 0 ns index (omega arith)) (unfit-there (misfit s) (misfit-tells s) 0 ns l)
+  by-table (Unwritten.crowded r m l h) =
+      WriteRefusal.room r (why-failed (mismatch-tells ns bs) m) (fit-before (misfit s) (misfit-tells s) 0 ns (length ns) l) h
+
+  to-table : {n p : ℕ} → WriteRefusal s bs ns c fill full (length out) n p
+      → Unwritten (sound s) (holds (W s) c) (mismatched ns bs) index (length ns) bytes (length out) n p
+  to-table (WriteRefusal.setting e) = Unwritten.unsound e
+  to-table (WriteRefusal.counter e) = Unwritten.over e
+  to-table (WriteRefusal.mismatch r m) = Unwritten.mismatched r (passed (not-both ns bs) (mismatch-tells ns bs) m)
+  to-table (WriteRefusal.unfit {i = i} r m l f u) =
+      let x : index ≡ i = index-is (misfit s) (misfit-tells s) 0 ns (not-both-fit s) i l f u in
+      rw (← x) (Unwritten.misfit r (failed (not-both ns bs) (mismatch-tells ns bs) m) (omega arith))
+  to-table (WriteRefusal.room r m f h) =
+      let x : index ≡ length ns = index-none (misfit s) (misfit-tells s) 0 ns (not-both-fit s) f in
+      Unwritten.crowded r (failed (not-both ns bs) (mismatch-tells ns bs) m) (omega arith) h
+
+  pub write-refused-exactly : (n p : ℕ)
+      → (writeOf s bs ns c fill full out .answer ≡ W.Refused n p) ↔ WriteRefusal s bs ns c fill full (length out) n p
+  unfolding writeOf composed
+  write-refused-exactly n p =
+      exactly-unwritten (sound s) (holds (W s) c) (mismatched ns bs) index (length ns) bytes out after by-table to-table
+
+  -- a refusal leaves the output
+  pub write-refused-keeps : (n p : ℕ) → writeOf s bs ns c fill full out .answer ≡ W.Refused n p → writeOf s bs ns c fill full out .lent ≡ out
+  unfolding writeOf composed
+  write-refused-keeps n p e = kept-out (sound s) (holds (W s) c) (mismatched ns bs) index (length ns) bytes out after e
