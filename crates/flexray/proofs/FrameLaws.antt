@@ -3,12 +3,12 @@
 use Prim.Native.Nat.{ℕ, _+_, _-_, _%_, _<_, _≤_}
 use native.Mathlib.Omega.{arith}
 use mathlib.Core.Path.{_≡_, refl, sym, _∙_}
-use mathlib.Core.Bool.{Bool, true, false, cond, not, _&&_}
+use mathlib.Core.Bool.{Bool, true, false, cond}
 use mathlib.Core.List.{List, [], _∷_, _++_, append-nil, map}
 use lib.ListN.{length, replicate, length-append, length-replicate}
 use lib.Dec.{eqb}
 use borrow.Author.Tests.{eqb-true, eqb-false, eq-eqb, ne-eqb}
-use Rattle.layout.specs.Field.{Kind, is, width, says, values, puts, Kind.NAX, Kind.LEN, Kind.FILL}
+use Rattle.layout.specs.Field.{Name, is, width, says, values, puts, Name.NAX, Name.LEN, Name.FILL}
 use Rattle.layout.proofs.FieldLaws.{says-puts, length-puts}
 use Rattle.packet.specs.Message.{Msg}
 use Rattle.packet.specs.Counter.{holds}
@@ -65,7 +65,7 @@ module _ (s : Setting) (fill : ℕ) where
 ---- Further packets ------------------------------------------------------------------------------------------------------------
 
 -- where the last packet ends
-abbrev endOf : ℕ → ℕ → List (List ℕ) → ℕ
+abbrev pub endOf : ℕ → ℕ → List (List ℕ) → ℕ
 endOf a e [] = e
 endOf a e (b ∷ bs) = endOf a (start a e + length b) bs
 
@@ -99,6 +99,15 @@ further-length (next f b {bs = bs} l z k) = simp length-append (omega (arith, fu
 abbrev pub Fits : Setting → List ℕ → Type 0
 Fits s ns = Each (Fit s) (spans s ns)
 
+-- a frame is as long as its last packet's end, made even
+pub frame-length : (s : Setting) (fill c : ℕ) (b : List ℕ) (bs : List (List ℕ)) → Fits s (length b ∷ map length bs)
+    → length (frame s fill c (b ∷ bs)) ≡ endOf (s .align) (H s + length b) bs + endOf (s .align) (H s + length b) bs % 2
+unfolding frame spans
+frame-length s fill c b bs f =
+    let e : ℕ = endOf (s .align) (H s + length b) bs in
+    let k = further-length (written-further s fill (H s + length b) bs (f .1)) in
+    simp (length-append, length-puts) (omega (arith, evening-length s fill e))
+
 ---- The frame ------------------------------------------------------------------------------------------------------------------
 
 module _ (s : Setting) (ok : sound s ≡ true) (fill c : ℕ) (v : holds (W s) c ≡ true) where
@@ -109,7 +118,7 @@ module _ (s : Setting) (ok : sound s ≡ true) (fill c : ℕ) (v : holds (W s) c
   head-length n = length-puts (values (s .node) n c) fill (fields s)
 
   -- a field of one byte says what was written
-  says-one : (k : Kind) (n : ℕ) → is k FILL ≡ false → width k (fields s) ≡ 1 → values (s .node) n c k < 256
+  says-one : (k : Name) (n : ℕ) → is k FILL ≡ false → width k (fields s) ≡ 1 → values (s .node) n c k < 256
       → says k (fields s) (head n) 0 ≡ values (s .node) n c k
   says-one k n f w h = says-puts (values (s .node) n c) fill k f (fields s) (omega arith) (rw w h)
 
@@ -130,7 +139,7 @@ module _ (s : Setting) (ok : sound s ≡ true) (fill c : ℕ) (v : holds (W s) c
       let o : Laid s e cs (front b ∷ ms) t = rw (← said-counter (s .node) n c fill (fields s) v) (laid (head n) b r k) in
       record {
         setting = ok;
-        sized = record { even = rw l even; least = omega (arith, r .some, further-on k); most = omega arith; nax = x };
+        sized = record { evened = record { even = rw l even; most = omega arith }; least = omega (arith, r .some, further-on k); nax = x };
         end = e;
         left = cs;
         laid = o;

@@ -7,15 +7,16 @@ use mathlib.Core.List.{List}
 use lib.ListN.{length, drop}
 use lib.Dec.{ltb, eqb}
 use borrow.Author.Tests.{ltb-true, ltb-false, eqb-true, eqb-false, lt-ltb, le-ltb, eq-eqb, ne-eqb}
-use Rattle.layout.specs.Field.{says, Kind.NAX}
+use Rattle.layout.specs.Field.{says, Name.NAX}
 use Rattle.layout.specs.Walk.{Step, Out, Forward, Ends, Step.done, Out.list, Out.refused, Ends.ends}
 use Rattle.layout.proofs.WalkLaws.{walked, ended}
 use Rattle.packet.specs.Message.{Msg}
+use Rattle.packet.proofs.PacketsLaws.{Each}
+use Rattle.packet.proofs.SeenLaws.{Shown, shown}
 use Rattle.flexray.specs.declared.Setting.{Setting}
 use Rattle.flexray.specs.Setting.{fields, H, sound}
-use Rattle.flexray.specs.Layout.{Sized, Closed, Frame}
-use Rattle.flexray.specs.Reading.{step, ahead, judged}
-use Rattle.flexray.specs.Refusal.{Evened}
+use Rattle.flexray.specs.Layout.{Evened, Sized, Closed, Frame}
+use Rattle.flexray.specs.Reading.{seen, step, ahead, judged}
 use Rattle.flexray.proofs.SeenLaws.{Sees, Sees.is-none, Sees.is-past, Sees.is-packet, start-more}
 use Rattle.flexray.proofs.SeenLaws.{Later, first, first-done, later, later-only}
 use Rattle.flexray.proofs.WayLaws.{Reached, Reached.start-itself, Reached.packet-end, reached, leads}
@@ -67,9 +68,8 @@ module _ (s : Setting) (t : List ℕ) where
           → eqb (says NAX (fields s) t 0) (s .node) ≡ true → Sized s t
       sized gb gc gd ge =
           record {
-            even = evened gb gc .even;
+            evened = evened gb gc;
             least = ltb-false (length t) (H s + 1) gd;
-            most = evened gb gc .most;
             nax = eqb-true (says NAX (fields s) t 0) (s .node) ge;
           }
 
@@ -99,7 +99,7 @@ module _ (s : Setting) (t : List ℕ) where
   judged-is (walks e z w) =
       rw (
         e,
-        of-length (z .even) (z .most),
+        of-length (z .evened .even) (z .evened .most),
         le-ltb (length t) (H s + 1) (z .least),
         eq-eqb (says NAX (fields s) t 0) (s .node) (z .nax),
       ) w
@@ -129,3 +129,7 @@ module _ (s : Setting) (t : List ℕ) where
 
   pub read-unique : (ms ns : List Msg) → Frame s ms t → Frame s ns t → ms ≡ ns
   read-unique ms ns f g = let x = read-complete ms f in let y = read-complete ns g in cc
+
+  -- a packet's part, asked for by place and length, shows exactly the packet
+  pub parts-show : (ms : List Msg) → Frame s ms t → Each (Shown t) ms
+  parts-show ms f = shown t (seen s t) (leads s t (f .laid) .0)

@@ -1,27 +1,30 @@
 -- A frame is refused with a number at a place exactly where that rule is broken there, and accepted exactly where none is.
 use Prim.Native.Nat.{ℕ, _*_, _-_, _<_, _≤_}
 use native.Mathlib.Omega.{arith}
-use mathlib.Core.Path.{_≡_, refl, sym, ap, _∙_}
+use mathlib.Core.Path.{_≡_, refl, sym, _∙_}
 use mathlib.Core.Bool.{Bool, true, false}
-use mathlib.Core.List.{List}
+use mathlib.Core.List.{List, [], _∷_}
 use mathlib.Core.Logic.{_↔_}
-use lib.ListN.{length, drop}
-use lib.Seq.{sets}
+use lib.ListN.{length, take, drop}
 use lib.Dec.{eqb}
 use borrow.Author.Tests.{eqb-true, eqb-false}
-use Rattle.layout.specs.Field.{says, Kind.LEN}
-use Rattle.layout.specs.Walk.{Out, Ends, Out.list, Out.refused, Step.fault, Leads.here, Ends.stops}
+use Rattle.layout.specs.Field.{says, Name.LEN}
+use Rattle.layout.specs.Walk.{Ends, Out.refused, Step.fault, Leads.here, Ends.stops}
 use Rattle.packet.specs.declared.Counter.{Counter}
 use Rattle.packet.specs.declared.Reading.the-variants as R
 use Rattle.packet.specs.Counter.{valid}
 use Rattle.packet.specs.Message.{Msg}
-use Rattle.packet.proofs.ReaderLaws.{Unread, refused-anyway, takes, why-taken, kept-rows, exactly-unread}
+use Rattle.packet.specs.Answer.{readNumber, readState}
+use Rattle.packet.proofs.CounterLaws.{exceeds-known, not-valid}
+use Rattle.packet.proofs.RowLaws.{length-table}
+use Rattle.packet.proofs.ReaderLaws.{Unread, Taken, refused-anyway, read-keeps, rows-front, exactly-unread, exactly-taken}
 use Rattle.flexray.specs.declared.Setting.{Setting}
-use Rattle.flexray.specs.Setting.{fields, H, L, W, sound}
+use Rattle.flexray.specs.Setting.{fields, H, L, W}
 use Rattle.flexray.specs.Layout.{Sized, Frame}
-use Rattle.flexray.specs.Reading.{firstLen, step, ahead, judged, frameTable, frameState, readOf}
-use Rattle.flexray.specs.Refusal.{Fine, Broken, ReadRefusal}
-use Rattle.flexray.specs.Refusal.{Broken.zeroed, Broken.past, Broken.later as past-later}
+use Rattle.flexray.specs.Reading.{firstLen, step, ahead, judged, readOf}
+use Rattle.flexray.specs.Row.{frameTable, frameState}
+use Rattle.flexray.specs.Refusal.{Fine, Broken, ReadRefusal, ReadAccept}
+use Rattle.flexray.specs.Refusal.{Broken.zeroed, Broken.past, Broken.behind as past-behind}
 use Rattle.flexray.specs.Refusal as S
 use Rattle.flexray.proofs.SeenLaws.{Sees.is-none, Sees.is-past, First, Later}
 use Rattle.flexray.proofs.SeenLaws.{first, first-only, first-all, first-said, later, later-only}
@@ -54,7 +57,7 @@ module _ (s : Setting) (t : List ℕ) (z : Sized s t) where
   broken-at (packet-end {k = k} {ms = ms} h l) d = at (rw d at (later s t k h))
     where
       at : {n p : ℕ} → Later s t k (fault n p) → Broken s t n p
-      at (is-past e h) = past-later _ k (drop k t) ms l refl e h
+      at (is-past e h) = past-behind _ k (drop k t) ms l refl e h
 
   pub broken : {n p : ℕ} → ahead s t 0 ≡ refused n p → Broken s t n p
   broken e = at (ahead-ends s t e)
@@ -67,7 +70,7 @@ module _ (s : Setting) (t : List ℕ) (z : Sized s t) where
   breaks (past n l e h b) =
       let d : firstLen s t ≡ n = first-said s t l ∙ e in
       stops here (first-only s t (is-past (omega arith) (omega arith)))
-  breaks (past-later n k cs ms l e h b) =
+  breaks (past-behind n k cs ms l e h b) =
       let (w, c, y) = leads s t l in
       stops w (later-only s t k y (is-past (omega arith) (omega arith)))
 
@@ -79,6 +82,22 @@ module _ (s : Setting) (t : List ℕ) (z : Sized s t) where
 abbrev rowsOf : Setting → Counter → List Msg → List ℕ
 rowsOf s c = frameTable (s .direction) (W s) c
 
+-- a refusal has one of the paper's numbers
+rule-number : {s : Setting} {t : List ℕ} {n p : ℕ} → Broken s t n p → (0 < n) × (n ≤ 8)
+rule-number (zeroed l e) = omega arith
+rule-number (past n l e h b) = omega arith
+rule-number (past-behind n k cs ms l e h b) = omega arith
+
+pub read-number : {s : Setting} {t : List ℕ} {c : Counter} {k n p : ℕ} → ReadRefusal s t c k n p → (0 < n) × (n ≤ 8)
+read-number (S.ReadRefusal.setting e) = omega arith
+read-number (S.ReadRefusal.counter k x) = omega arith
+read-number (S.ReadRefusal.odd f h) = omega arith
+read-number (S.ReadRefusal.long f h) = omega arith
+read-number (S.ReadRefusal.short f v h) = omega arith
+read-number (S.ReadRefusal.node f v h x) = omega arith
+read-number (S.ReadRefusal.rule f z b) = rule-number b
+read-number (S.ReadRefusal.room f ms r h) = omega arith
+
 module _ (s : Setting) (t : List ℕ) (c : Counter) (rows : List ℕ) where
   from-judged : {n p : ℕ} → valid (W s) c ≡ true → Judged s t (refused n p) → ReadRefusal s t c (length rows) n p
   from-judged v (unsound e) = S.ReadRefusal.setting e
@@ -89,7 +108,7 @@ module _ (s : Setting) (t : List ℕ) (c : Counter) (rows : List ℕ) where
   from-judged v (walks e z w) = S.ReadRefusal.rule (record { setting = e; counter = v }) z (broken s t z w)
 
   by-table : {n p : ℕ} → Unread (length rows) (valid (W s) c) (judged s t) n p → ReadRefusal s t c (length rows) n p
-  by-table (Unread.over e) = S.ReadRefusal.counter e
+  by-table (Unread.over e) = let (k, x) = exceeds-known (W s) c e in S.ReadRefusal.counter k x
   by-table (Unread.judged v e) = from-judged v (rw e at (judge s t))
   by-table (Unread.crowded ms v e l) =
       let f : Frame s ms t = read-sound s t ms e in
@@ -97,7 +116,7 @@ module _ (s : Setting) (t : List ℕ) (c : Counter) (rows : List ℕ) where
 
   to-table : {n p : ℕ} → ReadRefusal s t c (length rows) n p → Unread (length rows) (valid (W s) c) (judged s t) n p
   to-table (S.ReadRefusal.setting e) = refused-anyway (valid (W s) c) (judged-is s t (unsound e))
-  to-table (S.ReadRefusal.counter e) = Unread.over e
+  to-table (S.ReadRefusal.counter k x) = Unread.over (not-valid (W s) c k x)
   to-table (S.ReadRefusal.odd f h) = Unread.judged (f .counter) (judged-is s t (odd (f .setting) h))
   to-table (S.ReadRefusal.long f h) = Unread.judged (f .counter) (judged-is s t (long (f .setting) h))
   to-table (S.ReadRefusal.short f v h) = Unread.judged (f .counter) (judged-is s t (short (f .setting) v h))
@@ -110,24 +129,49 @@ module _ (s : Setting) (t : List ℕ) (c : Counter) (rows : List ℕ) where
   unfolding readOf
   refused-exactly n p = exactly-unread (rowsOf s c) (frameState (W s) c) rows (valid (W s) c) (judged s t) by-table to-table
 
-  -- a refusal leaves the table
-  pub refused-keeps : (n p : ℕ) → readOf s t c rows .answer ≡ R.Refused n p → readOf s t c rows .lent ≡ rows
+  -- a refusal leaves the table and the state
+  pub refused-keeps : 0 < readNumber (readOf s t c rows .answer)
+      → (readOf s t c rows .lent ≡ rows) × (readState c (readOf s t c rows .answer) ≡ c)
   unfolding readOf
-  refused-keeps n p e = kept-rows (rowsOf s c) (frameState (W s) c) rows (valid (W s) c) (judged s t) e
+  refused-keeps = read-keeps (rowsOf s c) (frameState (W s) c) rows (valid (W s) c) (judged s t) c
 
-  -- a frame is accepted where there is room, with its packets' rows and the state behind it
-  pub accepts-exactly : (ms : List Msg) → Fine s c → Frame s ms t → 5 * length ms ≤ length rows
-      → readOf s t c rows
-      ≡ record { answer = R.Rows (length ms) (frameState (W s) c ms); lent = sets rows 0 (frameTable (s .direction) (W s) c ms) }
+  pub accepted-exactly : (k : ℕ) (d : Counter) → (readOf s t c rows .answer ≡ R.Rows k d) ↔ ReadAccept s t c (length rows) k d
   unfolding readOf
-  accepts-exactly ms f r h =
-      takes (rowsOf s c) (frameState (W s) c) rows (valid (W s) c) (judged s t) ms (f .counter) (read-complete s t ms r) h
+  accepted-exactly k d = exactly-taken (rowsOf s c) (frameState (W s) c) rows (valid (W s) c) (judged s t) from to
+    where
+      from : Taken (length rows) (frameState (W s) c) (valid (W s) c) (judged s t) k d → ReadAccept s t c (length rows) k d
+      from y =
+          let f : Frame s (y .messages) t = read-sound s t (y .messages) (y .judged) in
+          record {
+            fine = record { setting = f .setting; counter = y .counter };
+            messages = y .messages;
+            frame = f;
+            room = y .room;
+            count = y .count;
+            state = y .left;
+          }
 
-  -- and nothing else is
-  pub accepted-exactly : (k : ℕ) (d : Counter) → readOf s t c rows .answer ≡ R.Rows k d
-      → (ms : List Msg) × Fine s c × Frame s ms t × (5 * length ms ≤ length rows) × (k ≡ length ms)
+      to : ReadAccept s t c (length rows) k d → Taken (length rows) (frameState (W s) c) (valid (W s) c) (judged s t) k d
+      to y =
+          record {
+            messages = y .messages;
+            counter = y .fine .counter;
+            judged = read-complete s t (y .messages) (y .frame);
+            room = y .room;
+            count = y .count;
+            left = y .state;
+          }
+
+  length-frame-table : (ms : List Msg) → length (frameTable (s .direction) (W s) c ms) ≡ 5 * length ms
+  unfolding frameTable
+  length-frame-table [] = refl
+  length-frame-table (m ∷ ms) = omega (arith, length-table (s .direction) 0 c ms)
+
+  -- the rows of what is accepted stand at the front of the table, and those behind are unchanged
+  pub accepted-rows : (ms : List Msg) → Fine s c → Frame s ms t → 5 * length ms ≤ length rows
+      → (take (5 * length ms) (readOf s t c rows .lent) ≡ frameTable (s .direction) (W s) c ms)
+      × (drop (5 * length ms) (readOf s t c rows .lent) ≡ drop (5 * length ms) rows)
   unfolding readOf
-  accepted-exactly k d e =
-      let y = why-taken (rowsOf s c) (frameState (W s) c) rows (valid (W s) c) (judged s t) k d e in
-      let f : Frame s (y .messages) t = read-sound s t (y .messages) (y .judged) in
-      (y .messages, record { setting = f .setting; counter = y .counter }, f, y .room, y .count)
+  accepted-rows ms f r l =
+      rows-front (rowsOf s c) (frameState (W s) c) rows (valid (W s) c) (judged s t) ms (f .counter) (read-complete s t ms r)
+      (length-frame-table ms) l

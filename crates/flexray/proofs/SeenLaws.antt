@@ -7,13 +7,13 @@ use mathlib.Core.List.{List}
 use lib.ListN.{length}
 use lib.Dec.{ltb, eqb}
 use borrow.Author.Tests.{ltb-true, ltb-false, eqb-true, eqb-false, lt-ltb, le-ltb, eq-eqb, ne-eqb}
-use Rattle.layout.specs.Field.{says, Kind.LEN, Kind.CTR}
+use Rattle.layout.specs.Field.{says, Name.LEN, Name.CTR}
 use Rattle.layout.specs.Walk.{Step, Step.done, Step.entry, Step.pass, Step.fault}
 use Rattle.packet.specs.declared.Seen.{Seen}
 use Rattle.packet.specs.declared.Seen.the-variants as S
 use Rattle.packet.specs.declared.Found.{Found}
-use Rattle.packet.specs.Message.{Msg, message}
-use Rattle.packet.specs.Seen.{asStep}
+use Rattle.packet.specs.Message.{Msg}
+use Rattle.packet.specs.Seen.{message, asStep}
 use Rattle.flexray.specs.declared.Setting.{Setting}
 use Rattle.flexray.specs.Setting.{fields, H, L, start}
 use Rattle.flexray.specs.Reading.{packetAt, firstLen, nextLen, seen, step}

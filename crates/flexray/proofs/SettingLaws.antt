@@ -7,31 +7,28 @@ use mathlib.Core.List.{List, [], _∷_}
 use lib.ListN.{length, List·getD-eq-default}
 use lib.Dec.{leb, ltb, eqb}
 use borrow.Author.Tests.{ltb-true, ltb-false, leb-true, eqb-true}
-use Rattle.layout.specs.Field.{size, place, width, Kind.NAX, Kind.LEN, Kind.CTR}
+use Rattle.layout.specs.Field.{size, width, Name.NAX, Name.LEN}
 use Rattle.layout.proofs.TestLaws.{and-left, and-right}
 use Rattle.layout.proofs.TableLaws.{all, all-at}
 use Rattle.flexray.specs.declared.Setting.{Setting}
-use Rattle.flexray.specs.Setting.{Header, headers, header, fields, H, L, W, among, sound}
+use Rattle.flexray.specs.Setting.{Header, headers, header, fields, H, L, among, sound, mostCeiling}
 
 pub record Good (s : Setting) : Type 0 where
   pub node : s .node < 256
   pub direction : s .direction < 2
   pub least : 8 ≤ s .ceiling
-  pub most : s .ceiling ≤ 254
+  pub most : s .ceiling ≤ mostCeiling
   pub even : s .ceiling % 2 ≡ 0
   pub align : 0 < s .align
-  -- NAX comes first
-  pub naxat : place NAX (fields s) ≡ 0
   pub naxwidth : width NAX (fields s) ≡ 1
   pub lens : L s ≤ 1
-  pub counters : W s ≤ 1
   pub head : 0 < H s
   pub small : H s ≤ 4
 
 right : Header → Bool
 right h =
-    eqb (place NAX (h .fields)) 0 && eqb (width NAX (h .fields)) 1
-    && leb (width LEN (h .fields)) 1 && leb (width CTR (h .fields)) 1
+    eqb (width NAX (h .fields)) 1
+    && leb (width LEN (h .fields)) 1
     && ltb 0 (size (h .fields)) && leb (size (h .fields)) 4
     && all (ltb 0) (h .aligns)
 
@@ -71,13 +68,11 @@ good s e =
       node = ltb-true (s .node) 256 (search (and-left, and-right));
       direction = ltb-true (s .direction) 2 (search (and-left, and-right));
       least = leb-true 8 (s .ceiling) (search (and-left, and-right));
-      most = leb-true (s .ceiling) 254 (search (and-left, and-right));
+      most = leb-true (s .ceiling) mostCeiling (search (and-left, and-right));
       even = eqb-true (s .ceiling % 2) 0 (search (and-left, and-right));
       align = ltb-true 0 (s .align) (among-all (ltb 0) (s .align) aligns a m);
-      naxat = eqb-true (place NAX fs) 0 (search (and-left, and-right));
       naxwidth = eqb-true (width NAX fs) 1 (search (and-left, and-right));
       lens = leb-true (L s) 1 (search (and-left, and-right));
-      counters = leb-true (W s) 1 (search (and-left, and-right));
       head = ltb-true 0 (H s) (search (and-left, and-right));
       small = leb-true (H s) 4 (search (and-left, and-right));
     }

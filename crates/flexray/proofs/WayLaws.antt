@@ -8,7 +8,7 @@ use lib.ListN.{length, take, drop, length-append, length-take, take-append-drop,
 use lib.Seq.{drop-at}
 use lib.Dec.{eqb}
 use borrow.Author.Tests.{eqb-true, eqb-false}
-use Rattle.layout.specs.Field.{Kind, says, Kind.LEN, Kind.CTR}
+use Rattle.layout.specs.Field.{Name, says, Name.LEN, Name.CTR}
 use Rattle.layout.specs.Walk.{Leads, Step.entry}
 use Rattle.layout.specs.Walk.{Leads.here as stay, Leads.takes, Leads.skips}
 use Rattle.layout.proofs.FieldLaws.{says-here}
@@ -25,7 +25,7 @@ use Rattle.flexray.proofs.FurtherLaws.{shows, further-on, follow, furth
 
 module _ (s : Setting) (t : List ℕ) where
   -- what a field says in the frame it says in the header h
-  pub says-head : (k : Kind) (h r : List ℕ) → length h ≡ H s → h ++ r ≡ t → says k (fields s) t 0 ≡ says k (fields s) h 0
+  pub says-head : (k : Name) (h r : List ℕ) → length h ≡ H s → h ++ r ≡ t → says k (fields s) t 0 ≡ says k (fields s) h 0
   says-head k h r l c = says-here k (fields s) 0 t h r (omega arith) c
 
   first-len : (h b bs : List ℕ) → Head s h b bs → h ++ (b ++ bs) ≡ t → firstLen s t ≡ length b

@@ -1,28 +1,33 @@
 -- What is written is a frame of the packets given, and is read back. The writer refuses exactly where a rule is broken.
-use Prim.Native.Nat.{ℕ, _+_, _%_, _<_, _≤_}
+use Prim.Native.Nat.{ℕ, suc, _+_, _*_, _%_, _<_, _≤_}
 use native.Mathlib.Omega.{arith}
-use mathlib.Core.Path.{_≡_, refl, ap, _∙_}
+use mathlib.Core.Path.{_≡_, refl, sym, ap, _∙_}
 use mathlib.Core.Bool.{Bool, true, false, _||_}
 use mathlib.Core.List.{List, [], _∷_, _++_, append-nil, map}
 use mathlib.Core.Logic.{_↔_}
-use lib.ListN.{length, take, drop, replicate}
+use lib.ListN.{length, getD, take, drop, replicate}
 use borrow.Author.Tests.{eq-eqb, ne-eqb}
-use Rattle.layout.specs.Walk.{Out.list}
 use Rattle.layout.proofs.TestLaws.{why-passed, why-failed, passed, failed}
+use Rattle.packet.specs.declared.Counter.{Counter}
+use Rattle.packet.specs.declared.Reading.the-variants as R
 use Rattle.packet.specs.declared.Writing.the-variants as W
-use Rattle.packet.specs.Counter.{holds, later}
+use Rattle.packet.specs.Message.{Msg}
+use Rattle.packet.specs.Counter.{valid, holds, later}
+use Rattle.packet.proofs.CounterLaws.{exceeds, not-held}
 use Rattle.packet.specs.Packets.{packets, mismatched, Matched, first}
 use Rattle.packet.proofs.PacketsLaws.{packets-lengths, length-packets, fit-before, unfit-there, index-is, index-none, each}
-use Rattle.packet.proofs.WriterLaws.{Unwritten, Written, why-written, wrote-front, kept-past, kept-out, exactly-unwritten}
+use Rattle.packet.specs.Answer.{writeNumber, writeCounter}
+use Rattle.packet.proofs.WriterLaws.{Unwritten, Written, why-written, wrote-front, kept-past, write-keeps, exactly-unwritten, exactly-written}
 use Rattle.flexray.specs.declared.Setting.{Setting}
 use Rattle.flexray.specs.Setting.{H, L, W, moved, sound}
 use Rattle.flexray.specs.Layout.{Frame}
-use Rattle.flexray.specs.Reading.{judged}
+use Rattle.flexray.specs.Reading.{readOf}
+use Rattle.flexray.specs.Row.{frameTable, frameState}
 use Rattle.flexray.specs.Writing.{spans, misfit, miscounted, frame, placed, placedBehind, shown, composed, writeOf}
-use Rattle.flexray.specs.Refusal.{Fit, Counted, Willing, noSpan, span, WriteRefusal}
+use Rattle.flexray.specs.Refusal.{Fine, ReadAccept, Fit, Counted, Willing, noSpan, span, WriteRefusal, WriteAccept}
 use Rattle.flexray.proofs.FitLaws.{misfit-tells, not-both-fit, length-spans, Miscount, Rightly, count-tells, not-both-count}
 use Rattle.flexray.proofs.FrameLaws.{Fits, evening-fill, written}
-use Rattle.flexray.proofs.ReadLaws.{read-complete}
+use Rattle.flexray.proofs.RefusalLaws.{accepted-exactly, accepted-rows}
 
 ---- The packets shown ----------------------------------------------------------------------------------------------------------
 
@@ -44,6 +49,22 @@ module _ (s : Setting) (fill c : ℕ) where
       → map (λ m. m .packet) (placed s fill c (b ∷ [])) ≡ (b ++ replicate ((H s + length b) % 2) fill) ∷ []
   unfolding placed placedBehind
   written-packet l b = rw (eq-eqb (L s) 0 l, evening-fill s fill (H s + length b) l)
+
+-- the first carries the counter that was given
+pub written-counter : (d : Msg) (s : Setting) (fill c : ℕ) (b : List ℕ) (bs : List (List ℕ)) → 0 < W s
+    → getD (placed s fill c (b ∷ bs)) 0 d .ctr ≡ c
+unfolding placed
+written-counter d s fill c b bs w = rw (ne-eqb (W s) 0 (omega arith))
+
+behind-length : (a e : ℕ) (bs : List (List ℕ)) → length (placedBehind a e bs) ≡ length bs
+unfolding placedBehind
+behind-length a e [] = refl
+behind-length a e (b ∷ bs) = ap suc (behind-length a _ bs)
+
+placed-length : (s : Setting) (fill c : ℕ) (bs : List (List ℕ)) → length (placed s fill c bs) ≡ length bs
+unfolding placed
+placed-length s fill c [] = refl
+placed-length s fill c (b ∷ bs) = ap suc (behind-length (s .align) _ bs)
 
 ---- What was written -----------------------------------------------------------------------------------------------------------
 
@@ -89,13 +110,25 @@ module _ (s : Setting) (bs ns : List ℕ) (c fill : ℕ) (out : List ℕ) where
       let f : Fits s ns = each (Fit s) noSpan (spans s ns) (λ j l. fitting (length ns) (w .fit) j (rw (length-spans s ns) at l)) in
       rw (written-front k d e)
       (written s (w .ready .setting) fill c (w .ready .counter) (packets ns bs) (omega (arith, r .counted .some))
-      (λ l. n ∙ r .counted .one l) (rw (packets-lengths ns bs (r .matched .sum)) f))
+      (λ l. n ∙ r .counted .one l) (rw (packets-lengths ns bs (r .matched .same)) f))
 
-  -- and reads back as the same list
+  -- and reads back as the same list, with every state that is not refused and every table that has room. (`written-packets` and `written-packet`
+  -- say which packets those are)
   pub round-trip : (k d : ℕ) → writeOf s bs ns c fill out .answer ≡ W.Bytes k d
-      → judged s (take k (writeOf s bs ns c fill out .lent)) ≡ list (placed s fill c (packets ns bs))
-  round-trip k d e =
-      read-complete s (take k (writeOf s bs ns c fill out .lent)) (placed s fill c (packets ns bs)) (written-laid k d e)
+      → (e : Counter) (rows : List ℕ) → valid (W s) e ≡ true → 5 * length ns ≤ length rows
+      → (readOf s (take k (writeOf s bs ns c fill out .lent)) e rows .answer
+      ≡ R.Rows (length ns) (frameState (W s) e (placed s fill c (packets ns bs))))
+      × (take (5 * length ns) (readOf s (take k (writeOf s bs ns c fill out .lent)) e rows .lent)
+      ≡ frameTable (s .direction) (W s) e (placed s fill c (packets ns bs)))
+  round-trip k d w e rows v l =
+      let t : List ℕ = take k (writeOf s bs ns c fill out .lent) in
+      let ms : List Msg = placed s fill c (packets ns bs) in
+      let x : Frame s ms t = written-laid k d w in
+      let n : length ms ≡ length ns = placed-length s fill c (packets ns bs) ∙ length-packets ns bs in
+      let f : Fine s e = record { setting = x .setting; counter = v } in
+      let a : ReadAccept s t e (length rows) (length ns) (frameState (W s) e ms) =
+      record { fine = f; messages = ms; frame = x; room = omega arith; count = sym n; state = refl } in
+      (accepted-exactly s t e rows (length ns) (frameState (W s) e ms) .1 a, rw n at (accepted-rows s t e rows ms f x (omega arith) .0))
 
   ---- Refused exactly when -------------------------------------------------------------------------------------------------------
 
@@ -107,7 +140,7 @@ module _ (s : Setting) (bs ns : List ℕ) (c fill : ℕ) (out : List ℕ) where
   by-table : {n p : ℕ} → Unwritten (sound s) (holds (W s) c) wrong index (length ns) bytes (length out) n p
       → WriteRefusal s bs ns c fill (length out) n p
   by-table (Unwritten.unsound e) = WriteRefusal.setting e
-  by-table (Unwritten.over e) = WriteRefusal.counter e
+  by-table (Unwritten.over e) = WriteRefusal.counter (exceeds (W s) c e)
   by-table (Unwritten.mismatched r m) = by-count r (why-passed (count-tells s ns bs) m)
   by-table (Unwritten.misfit r m l) =
       let y : Rightly s ns bs = why-failed (count-tells s ns bs) m in
@@ -123,10 +156,17 @@ module _ (s : Setting) (bs ns : List ℕ) (c fill : ℕ) (out : List ℕ) where
   right-is : Matched ns bs → Counted s ns → wrong ≡ false
   right-is m k = failed (not-both-count s ns bs) (count-tells s ns bs) (record { matched = m; counted = k })
 
+  -- where every span fits, none is the first that does not
+  all-fit : ((j : ℕ) → j < length ns → Fit s (span s ns j)) → length ns ≤ index
+  all-fit f =
+      let n : length (spans s ns) ≡ length ns = length-spans s ns in
+      let x : index ≡ length (spans s ns) = index-none (misfit s) (misfit-tells s) noSpan (spans s ns) (not-both-fit s) (rw n f) in
+      omega arith
+
   to-table : {n p : ℕ} → WriteRefusal s bs ns c fill (length out) n p
       → Unwritten (sound s) (holds (W s) c) wrong index (length ns) bytes (length out) n p
   to-table (WriteRefusal.setting e) = Unwritten.unsound e
-  to-table (WriteRefusal.counter e) = Unwritten.over e
+  to-table (WriteRefusal.counter x) = Unwritten.over (not-held (W s) c x)
   to-table (WriteRefusal.mismatch r m) = Unwritten.mismatched r (wrong-is (Miscount.mismatch m))
   to-table (WriteRefusal.empty r e) = Unwritten.mismatched r (wrong-is (Miscount.none e))
   to-table (WriteRefusal.several r l h) = Unwritten.mismatched r (wrong-is (Miscount.several l h))
@@ -134,10 +174,7 @@ module _ (s : Setting) (bs ns : List ℕ) (c fill : ℕ) (out : List ℕ) where
       let x : index ≡ i =
       index-is (misfit s) (misfit-tells s) noSpan (spans s ns) (not-both-fit s) i (rw (length-spans s ns) l) f u in
       rw (← x) (Unwritten.misfit r (right-is m k) (omega arith))
-  to-table (WriteRefusal.room r m k f h) =
-      let n : length (spans s ns) ≡ length ns = length-spans s ns in
-      let x : index ≡ length (spans s ns) = index-none (misfit s) (misfit-tells s) noSpan (spans s ns) (not-both-fit s) (rw n f) in
-      Unwritten.crowded r (right-is m k) (omega arith) h
+  to-table (WriteRefusal.room r m k f h) = Unwritten.crowded r (right-is m k) (all-fit f) h
 
   pub write-refused-exactly : (n p : ℕ)
       → (writeOf s bs ns c fill out .answer ≡ W.Refused n p) ↔ WriteRefusal s bs ns c fill (length out) n p
@@ -145,7 +182,38 @@ module _ (s : Setting) (bs ns : List ℕ) (c fill : ℕ) (out : List ℕ) where
   write-refused-exactly n p =
       exactly-unwritten (sound s) (holds (W s) c) wrong index (length ns) bytes out after by-table to-table
 
-  -- a refusal leaves the output
-  pub write-refused-keeps : (n p : ℕ) → writeOf s bs ns c fill out .answer ≡ W.Refused n p → writeOf s bs ns c fill out .lent ≡ out
+  -- a refusal leaves the output and the counter
+  pub write-refused-keeps : 0 < writeNumber (writeOf s bs ns c fill out .answer)
+      → (writeOf s bs ns c fill out .lent ≡ out) × (writeCounter c (writeOf s bs ns c fill out .answer) ≡ c)
   unfolding writeOf composed
-  write-refused-keeps n p e = kept-out (sound s) (holds (W s) c) wrong index (length ns) bytes out after e
+  write-refused-keeps = write-keeps (sound s) (holds (W s) c) wrong index (length ns) bytes out after c
+
+  pub written-exactly : (k d : ℕ) → (writeOf s bs ns c fill out .answer ≡ W.Bytes k d) ↔ WriteAccept s bs ns c fill (length out) k d
+  unfolding writeOf composed
+  written-exactly k d = exactly-written (sound s) (holds (W s) c) wrong index (length ns) bytes out after from to
+    where
+      from : Written (sound s) (holds (W s) c) wrong index (length ns) bytes (length out) after k d → WriteAccept s bs ns c fill (length out) k d
+      from w =
+          let r : Rightly s ns bs = why-failed (count-tells s ns bs) (w .matched) in
+          record {
+            willing = w .ready;
+            matched = r .matched;
+            counted = r .counted;
+            fit = fitting (length ns) (w .fit);
+            room = w .room;
+            most = w .most;
+            count = w .count;
+            next = w .counter;
+          }
+
+      to : WriteAccept s bs ns c fill (length out) k d → Written (sound s) (holds (W s) c) wrong index (length ns) bytes (length out) after k d
+      to w =
+          record {
+            ready = w .willing;
+            matched = right-is (w .matched) (w .counted);
+            fit = all-fit (w .fit);
+            room = w .room;
+            most = w .most;
+            count = w .count;
+            counter = w .next;
+          }

@@ -5,16 +5,20 @@ use mathlib.Core.Path.{_≡_}
 use mathlib.Core.Bool.{true}
 use mathlib.Core.List.{List, [], _∷_, _++_}
 use lib.ListN.{length}
-use Rattle.layout.specs.Field.{says, Kind.NAX, Kind.LEN, Kind.CTR}
+use Rattle.layout.specs.Field.{says, Name.NAX, Name.LEN, Name.CTR}
 use Rattle.packet.specs.Message.{Msg}
 use Rattle.flexray.specs.declared.Setting.{Setting}
 use Rattle.flexray.specs.Setting.{fields, H, L, start, sound}
 
--- a frame's length, and its NAX
-pub record Sized (s : Setting) (t : List ℕ) : Type 0 where
+-- a frame's length is even and at most F
+pub record Evened (s : Setting) (t : List ℕ) : Type 0 where
   pub even : length t % 2 ≡ 0
-  pub least : H s + 1 ≤ length t
   pub most : length t ≤ s .ceiling
+
+-- it is at least H + 1, and NAX equals the node
+pub record Sized (s : Setting) (t : List ℕ) : Type 0 where
+  pub evened : Evened s t
+  pub least : H s + 1 ≤ length t
   pub nax : says NAX (fields s) t 0 ≡ s .node
 
 -- header h, first packet b, and the bytes bs behind it

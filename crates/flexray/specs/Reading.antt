@@ -1,27 +1,27 @@
 -- Reading a FlexRay frame (document 01, 'What reading and writing return'): what stands at a place, in numbers; the walk; and the answer for every input.
 -- Place 0 is the frame's start; any other place is the end of a packet.
-use Prim.Native.Nat.{ℕ, suc, _+_, _-_, _%_}
-use mathlib.Core.Bool.{Bool, cond, not, _||_}
-use mathlib.Core.List.{List, [], _∷_, _++_}
+use Prim.Native.Nat.{ℕ, _+_, _-_, _%_}
+use mathlib.Core.Bool.{cond, not, _||_}
+use mathlib.Core.List.{List}
 use lib.ListN.{length, getD}
 use lib.Dec.{ltb, eqb}
-use Rattle.layout.specs.Field.{says, Kind.NAX, Kind.LEN, Kind.CTR}
+use Rattle.layout.specs.Field.{says, Name.NAX, Name.LEN, Name.CTR}
 use Rattle.layout.specs.Walk.{Step, Out, walk, Out.refused}
 use Rattle.packet.specs.declared.Counter.{Counter}
 use Rattle.packet.specs.declared.Seen.{Seen}
 use Rattle.packet.specs.declared.Seen.the-variants as S
 use Rattle.packet.specs.Message.{Msg}
 use Rattle.packet.specs.Seen.{asStep}
-use Rattle.packet.specs.Counter.{valid, advance}
-use Rattle.packet.specs.Row.{row, numbers, table}
+use Rattle.packet.specs.Counter.{valid}
 use Rattle.packet.specs.declared.Reading.{Reading}
 use Rattle.packet.specs.Answer.{Answer, answered}
 use Rattle.flexray.specs.declared.Setting.{Setting}
-use Rattle.flexray.specs.Setting.{fields, H, L, W, start, moved, sound}
+use Rattle.flexray.specs.Row.{frameTable, frameState}
+use Rattle.flexray.specs.Setting.{fields, H, L, W, start, sound}
 
 ---- What stands at a place -----------------------------------------------------------------------------------------------------
 
--- a packet of n bytes at place p with counter c: none where n is 0, and past the frame where its end is; `none` and `past` say what is seen then
+-- what is seen of a packet of n bytes at place p with counter c: `none` where n is 0, `past` where it ends past the frame, else the packet
 abbrev pub packetAt : List ℕ → Seen → Seen → (p n c : ℕ) → Seen
 packetAt t none past p n c =
     cond (eqb n 0) none
@@ -58,15 +58,6 @@ judged s t =
     (cond (eqb (length t % 2) 1 || ltb (s .ceiling) (length t)) (refused 8 0)
     (cond (ltb (length t) (H s + 1)) (refused 6 0)
     (cond (not (eqb (says NAX (fields s) t 0) (s .node))) (refused 7 0) w)))
-
--- the frame's counter and gap stand in the first row; further packets carry none
-unfoldable pub frameTable : ℕ → ℕ → Counter → List Msg → List ℕ
-frameTable d w c [] = []
-frameTable d w c (m ∷ ms) = numbers (row d w c m) ++ table d 0 c ms
-
-unfoldable pub frameState : ℕ → Counter → List Msg → Counter
-frameState w c [] = c
-frameState w c (m ∷ ms) = advance w (moved (suc (length ms))) c (m .ctr)
 
 -- 1 for the state stands beside 1 for the setting, 4 comes last
 unfoldable pub readOf : Setting → List ℕ → Counter → List ℕ → Answer Reading

@@ -4,7 +4,7 @@ use mathlib.Core.Bool.{Bool, false, _&&_, _||_}
 use mathlib.Core.List.{List, [], _∷_}
 use lib.ListN.{getD}
 use lib.Dec.{leb, ltb, eqb}
-use Rattle.layout.specs.Field.{Field, size, width, Kind.NAX, Kind.LEN, Kind.CTR, Kind.FILL, Field._of_}
+use Rattle.layout.specs.Field.{Field, size, width, Name.NAX, Name.LEN, Name.CTR, Name.FILL, Field._of_}
 use Rattle.layout.specs.Multiple.{pad}
 use Rattle.flexray.specs.declared.Setting.{Setting}
 
@@ -27,7 +27,7 @@ headers =
     ∷ record { fields = NAX of 1 ∷ CTR of 1 ∷ FILL of 1 ∷ LEN of 1 ∷ []; aligns = 2 ∷ 4 ∷ [] }
     ∷ []
 
--- the header of a number; of no other number is there any field or alignment
+-- the header of a number; a number beyond the table has no field and no alignment
 abbrev pub header : ℕ → Header
 header n = getD headers n (record { fields = []; aligns = [] })
 
@@ -55,16 +55,20 @@ unfoldable pub moved : ℕ → ℕ
 moved n = 1
 
 -- the highest frame ceiling
-abbrev pub highest : ℕ
-highest = 254
+abbrev pub mostCeiling : ℕ
+mostCeiling = 254
 
 abbrev pub among : ℕ → List ℕ → Bool
 among a [] = false
 among a (b ∷ bs) = eqb a b || among a bs
 
+-- even, 8 to the highest
+abbrev pub capped : ℕ → Bool
+capped f = leb 8 f && leb f mostCeiling && eqb (f % 2) 0
+
 unfoldable pub sound : Setting → Bool
 sound s =
     ltb (s .node) 256
     && ltb (s .direction) 2
-    && (leb 8 (s .ceiling) && leb (s .ceiling) highest && eqb (s .ceiling % 2) 0)
+    && capped (s .ceiling)
     && among (s .align) (header (s .header) .aligns)

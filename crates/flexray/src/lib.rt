@@ -1,11 +1,8 @@
 // FlexRay nodes: their settings, and the table of their headers.
 ghost use mathlib.Core.Path.{_≡_};
-ghost use mathlib.Core.Bool.{_&&_};
-ghost use Prim.Native.Nat.{_%_};
-ghost use lib.Dec.{leb, eqb};
 ghost use Rattle.layout.specs.Field.{shape as shapeOf};
 ghost use Rattle.flexray.specs.Table.{entry as entryOf};
-ghost use Rattle.flexray.specs.Setting.{header as headerOf, among, highest, sound as soundOf};
+ghost use Rattle.flexray.specs.Setting.{header as headerOf, among, capped as cappedOf, sound as soundOf};
 use layout::Shape;
 use layout::all;
 use layout::both;
@@ -26,7 +23,7 @@ impl Setting {
     pub const CEILING: u32 = 254;
 }
 
-// A header, and the least and the most of the alignments that go with it, of which there are no others; 0 where none does.
+// A header, and its alignments by the least and the most: it has at most two; 0, 0 where it has none.
 struct Entry {
     shape: Shape,
     least: u32,
@@ -49,7 +46,7 @@ const LINES: [Line; 9] = [
     Line(4, 3, 1, 1, 1, 2, 4),
 ];
 
-// The entry of a header number; of no other number is there any field or alignment.
+// The entry of a header number; a number beyond the table has no field and no alignment.
 fn listed(header: u32) -> Entry
     ensures { λ r. ⌜ r ≡ entryOf (headerOf header) ⌝ }
 {
@@ -91,9 +88,9 @@ fn aligned(header: u32, a: u32) -> bool
     both(0 < h.least, either(a == h.least, a == h.most))
 }
 
-// A frame ceiling: even, and no higher than the highest.
+// A frame ceiling F: even, 8 to 254.
 fn capped(f: u32) -> bool
-    ensures { λ r. ⌜ r ≡ (leb 8 f && leb f highest && eqb (f % 2) 0) ⌝ }
+    ensures { λ r. ⌜ r ≡ cappedOf f ⌝ }
 {
     all(8 <= f, f <= Setting::CEILING, f % 2 == 0)
 }

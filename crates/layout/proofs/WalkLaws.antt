@@ -1,4 +1,4 @@
--- The laws of the walk. `walk-eq` is the only one that knows of the fuel, and the others and everybody else go by it.
+-- The laws of the walk. Behind `walk-eq` nothing knows of the fuel.
 use Prim.Native.Nat.{ℕ, zero, suc, _-_, _<_, _≤_}
 use native.Mathlib.Omega.{arith}
 use mathlib.Core.Path.{_≡_, refl, sym, ap, _∙_}

@@ -27,7 +27,7 @@ module _ {R : Type 0} where
   after on (pass k) = on k
   after on (fault n p) = refused n p
 
-  -- a walk of at most f steps. Only `walk` below and its laws name it
+  -- a walk of at most f steps
   unfoldable pub go : (ℕ → Step R) → ℕ → ℕ → Out R
   go st zero q = list []
   go st (suc f) q = after (go st f) (st q)

@@ -1,15 +1,15 @@
 -- Packets in joined bytes, tests on their lengths, and the least index at which a test passes.
-use Prim.Native.Nat.{ℕ, zero, suc, _+_, _-_, _<_, _≤_}
+use Prim.Native.Nat.{ℕ, zero, suc, _<_, _≤_}
 use native.Mathlib.Omega.{arith}
-use mathlib.Core.Path.{_≡_, refl, sym, ap, _∙_}
+use mathlib.Core.Path.{_≡_, refl, ap}
 use mathlib.Core.Bool.{Bool, true, false, cond, not, _||_}
 use mathlib.Core.List.{List, [], _∷_, map}
-use lib.ListN.{length, getD, take, drop, length-drop, length-take}
+use lib.ListN.{length, getD, take, drop, length-drop, length-take, take-append-drop}
 use lib.Dec.{ltb, eqb}
 use borrow.Author.Tests.{ltb-true, ltb-false, eqb-true, eqb-false}
 use Rattle.layout.proofs.TestLaws.{Tells, Tells.passes, Tells.fails, why-passed, why-failed, passed, failed}
 use Rattle.packet.specs.Limit.{mostLengths}
-use Rattle.packet.specs.Packets.{sum, packets, mismatched, Matched, Mismatch, Mismatch.many, Mismatch.differs, first}
+use Rattle.packet.specs.Packets.{sum, joined, packets, mismatched, Matched, Mismatch, Mismatch.many, Mismatch.differs, first}
 
 ---- Lengths --------------------------------------------------------------------------------------------------------------------
 
@@ -21,6 +21,15 @@ packets-lengths (n ∷ ns) bs e =
     let a : length (take n bs) ≡ n = rw length-take (omega arith) in
     let b : sum ns ≡ length (drop n bs) = rw length-drop (omega arith) in
     rw (a, packets-lengths ns (drop n bs) b)
+
+-- and joined they are the bytes
+pub packets-joined : (ns bs : List ℕ) → sum ns ≡ length bs → joined (packets ns bs) ≡ bs
+unfolding packets
+packets-joined [] [] e = refl
+packets-joined [] (b ∷ bs) e = absurd (omega arith)
+packets-joined (n ∷ ns) bs e =
+    let d : sum ns ≡ length (drop n bs) = rw length-drop (omega arith) in
+    rw (packets-joined ns (drop n bs) d) (take-append-drop n bs)
 
 pub length-packets : (ns bs : List ℕ) → length (packets ns bs) ≡ length ns
 unfolding packets
@@ -35,12 +44,12 @@ module _ (ns bs : List ℕ) where
     where
       at : (a b : Bool) → ltb mostLengths (length ns) ≡ a → eqb (sum ns) (length bs) ≡ b → Tells (Mismatch ns bs) (Matched ns bs) (a || not b)
       at true b ga gb = passes (many (ltb-true mostLengths (length ns) ga))
-      at false true ga gb = fails (record { few = ltb-false mostLengths (length ns) ga; sum = eqb-true (sum ns) (length bs) gb })
+      at false true ga gb = fails (record { few = ltb-false mostLengths (length ns) ga; same = eqb-true (sum ns) (length bs) gb })
       at false false ga gb = passes (differs (eqb-false (sum ns) (length bs) gb))
 
   pub not-both : Mismatch ns bs → Matched ns bs → ⊥
   not-both (many h) m = omega (arith, m .few)
-  not-both (differs h) m = h (m .sum)
+  not-both (differs h) m = h (m .same)
 
 ---- The least index ------------------------------------------------------------------------------------------------------------
 

@@ -13,7 +13,7 @@ use Rattle.layout.specs.Walk.{Out, Out.list, Out.refused}
 use Rattle.layout.proofs.TestLaws.{Tells, Tells.passes, Tells.fails, why-passed, why-failed, passed, failed}
 use Rattle.packet.specs.declared.Writing.{Writing}
 use Rattle.packet.specs.declared.Writing.the-variants as W
-use Rattle.packet.specs.Answer.{Ready, fewBytes, stored, weighed, NoRoom, NoRoom.small, NoRoom.long}
+use Rattle.packet.specs.Answer.{Ready, writeNumber, writeCounter, fewBytes, stored, weighed, NoRoom, NoRoom.small, NoRoom.long}
 use Rattle.packet.specs.Limit.{mostBytes}
 use Rattle.packet.proofs.AnswerLaws.{Unsettled, Settled, Apart, refuses, accepts, why-refused, why-accepted, keeps, put-front, kept-behind}
 
@@ -39,27 +39,27 @@ module _ (out bs : List ℕ) where
   no-room-fits (long h) l = omega arith
 
 -- what was weighed, each with its reason
-data Weighed (sound counter mismatch : Bool) (i n : ℕ) (bs : List ℕ) : Out ℕ → Type 0 where
-  unsound : sound ≡ false → Weighed sound counter mismatch i n bs (refused 1 0)
-  over : counter ≡ false → Weighed sound counter mismatch i n bs (refused 1 0)
-  mismatched : Ready sound counter → mismatch ≡ true → Weighed sound counter mismatch i n bs (refused 2 0)
-  misfit : Ready sound counter → mismatch ≡ false → i < n → Weighed sound counter mismatch i n bs (refused 3 i)
-  fit : Ready sound counter → mismatch ≡ false → n ≤ i → Weighed sound counter mismatch i n bs (list bs)
+data Weighed (sound held mismatch : Bool) (i n : ℕ) (bs : List ℕ) : Out ℕ → Type 0 where
+  unsound : sound ≡ false → Weighed sound held mismatch i n bs (refused 1 0)
+  over : held ≡ false → Weighed sound held mismatch i n bs (refused 1 0)
+  mismatched : Ready sound held → mismatch ≡ true → Weighed sound held mismatch i n bs (refused 2 0)
+  misfit : Ready sound held → mismatch ≡ false → i < n → Weighed sound held mismatch i n bs (refused 3 i)
+  fit : Ready sound held → mismatch ≡ false → n ≤ i → Weighed sound held mismatch i n bs (list bs)
 
-weighs : (sound counter mismatch : Bool) (i n : ℕ) (bs : List ℕ) {o : Out ℕ} → Weighed sound counter mismatch i n bs o
-    → weighed sound counter mismatch i n bs ≡ o
+weighs : (sound held mismatch : Bool) (i n : ℕ) (bs : List ℕ) {o : Out ℕ} → Weighed sound held mismatch i n bs o
+    → weighed sound held mismatch i n bs ≡ o
 unfolding weighed
-weighs sound counter mismatch i n bs (Weighed.unsound e) = rw e
-weighs true counter mismatch i n bs (Weighed.over e) = rw e
-weighs false counter mismatch i n bs (Weighed.over e) = refl
-weighs sound counter mismatch i n bs (Weighed.mismatched r e) = rw (r .setting, r .counter, e)
-weighs sound counter mismatch i n bs (Weighed.misfit r e l) = rw (r .setting, r .counter, e, lt-ltb i n l)
-weighs sound counter mismatch i n bs (Weighed.fit r e l) = rw (r .setting, r .counter, e, le-ltb i n l)
+weighs sound held mismatch i n bs (Weighed.unsound e) = rw e
+weighs true held mismatch i n bs (Weighed.over e) = rw e
+weighs false held mismatch i n bs (Weighed.over e) = refl
+weighs sound held mismatch i n bs (Weighed.mismatched r e) = rw (r .setting, r .counter, e)
+weighs sound held mismatch i n bs (Weighed.misfit r e l) = rw (r .setting, r .counter, e, lt-ltb i n l)
+weighs sound held mismatch i n bs (Weighed.fit r e l) = rw (r .setting, r .counter, e, le-ltb i n l)
 
-why-weighed : (sound counter mismatch : Bool) (i n : ℕ) (bs : List ℕ)
-    → Weighed sound counter mismatch i n bs (weighed sound counter mismatch i n bs)
+why-weighed : (sound held mismatch : Bool) (i n : ℕ) (bs : List ℕ)
+    → Weighed sound held mismatch i n bs (weighed sound held mismatch i n bs)
 unfolding weighed
-why-weighed false counter mismatch i n bs = Weighed.unsound refl
+why-weighed false held mismatch i n bs = Weighed.unsound refl
 why-weighed true false mismatch i n bs = Weighed.over refl
 why-weighed true true true i n bs = Weighed.mismatched (record { setting = refl; counter = refl }) refl
 why-weighed true true false i n bs = at (ltb i n) refl
@@ -69,12 +69,12 @@ why-weighed true true false i n bs = at (ltb i n) refl
     at false g = Weighed.fit (record { setting = refl; counter = refl }) refl (ltb-false i n g)
 
 -- why a writer refuses with a number at a place: of n lengths the one at i is the first that does not fit
-pub data Unwritten (sound counter mismatch : Bool) (i n : ℕ) (bs : List ℕ) (room : ℕ) : ℕ → ℕ → Type 0 where
-  unsound : sound ≡ false → Unwritten sound counter mismatch i n bs room 1 0
-  over : counter ≡ false → Unwritten sound counter mismatch i n bs room 1 0
-  mismatched : Ready sound counter → mismatch ≡ true → Unwritten sound counter mismatch i n bs room 2 0
-  misfit : Ready sound counter → mismatch ≡ false → i < n → Unwritten sound counter mismatch i n bs room 3 i
-  crowded : Ready sound counter → mismatch ≡ false → n ≤ i → NoRoom room (length bs) → Unwritten sound counter mismatch i n bs room 4 0
+pub data Unwritten (sound held mismatch : Bool) (i n : ℕ) (bs : List ℕ) (room : ℕ) : ℕ → ℕ → Type 0 where
+  unsound : sound ≡ false → Unwritten sound held mismatch i n bs room 1 0
+  over : held ≡ false → Unwritten sound held mismatch i n bs room 1 0
+  mismatched : Ready sound held → mismatch ≡ true → Unwritten sound held mismatch i n bs room 2 0
+  misfit : Ready sound held → mismatch ≡ false → i < n → Unwritten sound held mismatch i n bs room 3 i
+  crowded : Ready sound held → mismatch ≡ false → n ≤ i → NoRoom room (length bs) → Unwritten sound held mismatch i n bs room 4 0
 
 -- why it accepts, with k bytes and the next counter d
 pub record Written (sound held mismatch : Bool) (i n : ℕ) (bs : List ℕ) (bytes next k d : ℕ) : Type 0 where
@@ -86,31 +86,31 @@ pub record Written (sound held mismatch : Bool) (i n : ℕ) (bs : List ℕ) (byt
   pub count : k ≡ length bs
   pub counter : d ≡ next
 
-module _ (sound counter mismatch : Bool) (i n : ℕ) (bs out : List ℕ) (next : ℕ) where
+module _ (sound held mismatch : Bool) (i n : ℕ) (bs out : List ℕ) (next : ℕ) where
   abbrev bytesTold : List ℕ → Writing
   bytesTold xs = W.Bytes (length xs) next
 
   abbrev composed : Out ℕ
-  composed = weighed sound counter mismatch i n bs
+  composed = weighed sound held mismatch i n bs
 
-  not-settled : {a b : ℕ} → Unwritten sound counter mismatch i n bs (length out) a b → Unsettled (fewBytes out) a b composed
-  not-settled (unsound e) = rw (weighs sound counter mismatch i n bs (Weighed.unsound e)) Unsettled.judged
-  not-settled (over e) = rw (weighs sound counter mismatch i n bs (Weighed.over e)) Unsettled.judged
-  not-settled (mismatched r e) = rw (weighs sound counter mismatch i n bs (Weighed.mismatched r e)) Unsettled.judged
-  not-settled (misfit r e l) = rw (weighs sound counter mismatch i n bs (Weighed.misfit r e l)) Unsettled.judged
+  not-settled : {a b : ℕ} → Unwritten sound held mismatch i n bs (length out) a b → Unsettled (fewBytes out) a b composed
+  not-settled (unsound e) = rw (weighs sound held mismatch i n bs (Weighed.unsound e)) Unsettled.judged
+  not-settled (over e) = rw (weighs sound held mismatch i n bs (Weighed.over e)) Unsettled.judged
+  not-settled (mismatched r e) = rw (weighs sound held mismatch i n bs (Weighed.mismatched r e)) Unsettled.judged
+  not-settled (misfit r e l) = rw (weighs sound held mismatch i n bs (Weighed.misfit r e l)) Unsettled.judged
   not-settled (crowded r e l h) =
-      rw (weighs sound counter mismatch i n bs (Weighed.fit r e l)) (Unsettled.crowded (passed (no-room-fits out bs) (room-tells out bs) h))
+      rw (weighs sound held mismatch i n bs (Weighed.fit r e l)) (Unsettled.crowded (passed (no-room-fits out bs) (room-tells out bs) h))
 
-  unwritten : {a b : ℕ} → Unwritten sound counter mismatch i n bs (length out) a b
+  unwritten : {a b : ℕ} → Unwritten sound held mismatch i n bs (length out) a b
       → stored next out composed ≡ record { answer = W.Refused a b; lent = out }
   unwritten u = refuses W.Refused bytesTold (fewBytes out) (λ xs. xs) out (not-settled u)
 
-  why-unwritten : {a b : ℕ} → stored next out composed .answer ≡ W.Refused a b → Unwritten sound counter mismatch i n bs (length out) a b
+  why-unwritten : {a b : ℕ} → stored next out composed .answer ≡ W.Refused a b → Unwritten sound held mismatch i n bs (length out) a b
   why-unwritten e =
-      at (why-weighed sound counter mismatch i n bs) (why-refused W.Refused bytesTold (fewBytes out) (λ xs. xs) out apart-write composed e)
+      at (why-weighed sound held mismatch i n bs) (why-refused W.Refused bytesTold (fewBytes out) (λ xs. xs) out apart-write composed e)
     where
-      at : {a b : ℕ} {o : Out ℕ} → Weighed sound counter mismatch i n bs o → Unsettled (fewBytes out) a b o
-          → Unwritten sound counter mismatch i n bs (length out) a b
+      at : {a b : ℕ} {o : Out ℕ} → Weighed sound held mismatch i n bs o → Unsettled (fewBytes out) a b o
+          → Unwritten sound held mismatch i n bs (length out) a b
       at (Weighed.unsound e) Unsettled.judged = unsound e
       at (Weighed.over e) Unsettled.judged = over e
       at (Weighed.mismatched r e) Unsettled.judged = mismatched r e
@@ -118,20 +118,20 @@ module _ (sound counter mismatch : Bool) (i n : ℕ) (bs out : List ℕ) (next :
       at (Weighed.fit r e l) (Unsettled.crowded h) = crowded r e l (why-passed (room-tells out bs) h)
 
   pub why-written : {k d : ℕ} → stored next out composed .answer ≡ W.Bytes k d
-      → Written sound counter mismatch i n bs (length out) next k d
+      → Written sound held mismatch i n bs (length out) next k d
   why-written {k} {d} e =
-      at (why-weighed sound counter mismatch i n bs)
+      at (why-weighed sound held mismatch i n bs)
       (why-accepted W.Refused bytesTold (fewBytes out) (λ xs. xs) out apart-write composed never e)
     where
       never : (a b : ℕ) → W.Refused a b ≡ W.Bytes k d → ⊥
       never a b e = let z : _≡_ {A = ℕ} 0 1 = cc in omega arith
 
       refused-never : {a b : ℕ} → Settled bytesTold (fewBytes out) (W.Bytes k d) (refused a b)
-          → Written sound counter mismatch i n bs (length out) next k d
+          → Written sound held mismatch i n bs (length out) next k d
       refused-never x = let j = x .judged in let z : _≡_ {A = ℕ} 0 1 = cc in absurd (omega arith)
 
-      at : {o : Out ℕ} → Weighed sound counter mismatch i n bs o → Settled bytesTold (fewBytes out) (W.Bytes k d) o
-          → Written sound counter mismatch i n bs (length out) next k d
+      at : {o : Out ℕ} → Weighed sound held mismatch i n bs o → Settled bytesTold (fewBytes out) (W.Bytes k d) o
+          → Written sound held mismatch i n bs (length out) next k d
       at (Weighed.unsound e) x = refused-never x
       at (Weighed.over e) x = refused-never x
       at (Weighed.mismatched r e) x = refused-never x
@@ -144,26 +144,40 @@ module _ (sound counter mismatch : Bool) (i n : ℕ) (bs out : List ℕ) (next :
           let c : k ≡ length (x .list) = cc in
           record { ready = r; matched = e; fit = l; room = omega arith; most = omega arith; count = rw y c; counter = cc }
 
-  pub wrote : {k d : ℕ} → Written sound counter mismatch i n bs (length out) next k d
+  wrote : {k d : ℕ} → Written sound held mismatch i n bs (length out) next k d
       → stored next out composed ≡ record { answer = W.Bytes (length bs) next; lent = sets out 0 bs }
   wrote w =
-      rw (weighs sound counter mismatch i n bs (Weighed.fit (w .ready) (w .matched) (w .fit)))
+      rw (weighs sound held mismatch i n bs (Weighed.fit (w .ready) (w .matched) (w .fit)))
       (accepts W.Refused bytesTold (fewBytes out) (λ xs. xs) out bs (failed (no-room-fits out bs) (room-tells out bs) (omega (arith, w .room, w .most))))
 
   -- the bytes at the front of the output
-  pub wrote-front : {k d : ℕ} → Written sound counter mismatch i n bs (length out) next k d → take k (stored next out composed .lent) ≡ bs
+  pub wrote-front : {k d : ℕ} → Written sound held mismatch i n bs (length out) next k d → take k (stored next out composed .lent) ≡ bs
   wrote-front w = rw (wrote w, w .count) (put-front out bs (w .room))
 
   -- and those behind are unchanged
-  pub kept-past : {k d : ℕ} → Written sound counter mismatch i n bs (length out) next k d
+  pub kept-past : {k d : ℕ} → Written sound held mismatch i n bs (length out) next k d
       → drop k (stored next out composed .lent) ≡ drop k out
   kept-past w = rw (wrote w, w .count) (kept-behind out bs (w .room))
 
-  -- a refusal leaves the output
-  pub kept-out : {a b : ℕ} → stored next out composed .answer ≡ W.Refused a b → stored next out composed .lent ≡ out
-  kept-out e = keeps W.Refused bytesTold (fewBytes out) (λ xs. xs) out apart-write composed e
+  -- a refusal, which is a number above 0, leaves the output and the counter
+  pub write-keeps : (c : ℕ) → 0 < writeNumber (stored next out composed .answer)
+      → (stored next out composed .lent ≡ out) × (writeCounter c (stored next out composed .answer) ≡ c)
+  write-keeps c = at (stored next out composed .answer) refl
+    where
+      at : (a : Writing) → stored next out composed .answer ≡ a → 0 < writeNumber a
+          → (stored next out composed .lent ≡ out) × (writeCounter c a ≡ c)
+      at (W.Bytes k d) e h = absurd (omega arith)
+      at (W.Refused n p) e h = (keeps W.Refused bytesTold (fewBytes out) (λ xs. xs) out apart-write composed e, refl)
 
-  -- so a relation that says when a writer refuses is exact where it is such a reason, and each such reason is one of it
-  pub exactly-unwritten : {a b : ℕ} {Refusal : Type 0} → (Unwritten sound counter mismatch i n bs (length out) a b → Refusal)
-      → (Refusal → Unwritten sound counter mismatch i n bs (length out) a b) → (stored next out composed .answer ≡ W.Refused a b) ↔ Refusal
+  -- So a relation that says when a writer refuses is exact where it is such a reason, and each such reason is one of it
+  pub exactly-unwritten : {a b : ℕ} {Refusal : Type 0} → (Unwritten sound held mismatch i n bs (length out) a b → Refusal)
+      → (Refusal → Unwritten sound held mismatch i n bs (length out) a b) → (stored next out composed .answer ≡ W.Refused a b) ↔ Refusal
   exactly-unwritten from to = (λ e. from (why-unwritten e), λ r. ap (λ x. x .answer) (unwritten (to r)))
+
+  -- the same of when it accepts
+  pub exactly-written : {k d : ℕ} {Accept : Type 0} → (Written sound held mismatch i n bs (length out) next k d → Accept)
+      → (Accept → Written sound held mismatch i n bs (length out) next k d) → (stored next out composed .answer ≡ W.Bytes k d) ↔ Accept
+  exactly-written {k} {d} from to = (λ e. from (why-written e), λ r. told (to r))
+    where
+      told : Written sound held mismatch i n bs (length out) next k d → stored next out composed .answer ≡ W.Bytes k d
+      told w = rw (w .count, w .counter) (ap (λ x. x .answer) (wrote w))

@@ -66,14 +66,14 @@ module _ {R E : Type 0} where
   settled refuse accept few told lent (list xs) =
       cond (few xs) (record { answer = refuse 4 0; lent = lent }) (record { answer = accept xs; lent = sets lent 0 (told xs) })
 
--- A reader with these rows and this state for its messages: 1 for the counter stands beside what was judged, and fewer than five numbers for
--- each row are too few
+-- A reader with these rows and this state for its messages. A counter that is not held is refused with 1 before what was judged counts; fewer than
+-- five numbers for each row are too few
 abbrev pub fewNumbers : List ℕ → List Msg → Bool
 fewNumbers rows ms = ltb (length rows) (5 * length ms)
 
-abbrev pub answered : (List Msg → List ℕ) → (List Msg → Counter) → List ℕ → (counter : Bool) → Out Msg → Answer Reading
-answered table state rows counter o =
-    settled R.Refused (λ ms. R.Rows (length ms) (state ms)) (fewNumbers rows) table rows (cond counter o (refused 1 0))
+abbrev pub answered : (List Msg → List ℕ) → (List Msg → Counter) → List ℕ → (held : Bool) → Out Msg → Answer Reading
+answered table state rows held o =
+    settled R.Refused (λ ms. R.Rows (length ms) (state ms)) (fewNumbers rows) table rows (cond held o (refused 1 0))
 
 -- A writer with this next counter: the output is too small, or would exceed the longest transfer
 abbrev pub fewBytes : List ℕ → List ℕ → Bool
@@ -82,10 +82,10 @@ fewBytes out bs = ltb (min (length out) mostBytes) (length bs)
 abbrev pub stored : ℕ → List ℕ → Out ℕ → Answer Writing
 stored next out = settled W.Refused (λ bs. W.Bytes (length bs) next) (fewBytes out) (λ bs. bs) out
 
--- Before that a writer refuses 1, 2, and 3 at the least index i of n lengths that does not fit
-unfoldable pub weighed : (sound counter mismatch : Bool) (i n : ℕ) → List ℕ → Out ℕ
-weighed sound counter mismatch i n bs =
-    cond (not (sound && counter)) (refused 1 0) (cond mismatch (refused 2 0) (cond (ltb i n) (refused 3 i) (list bs)))
+-- Before that a writer refuses: 1; 2; 3 at i, the least index of a length that does not fit, where i is below the number n of lengths
+unfoldable pub weighed : (sound held mismatch : Bool) (i n : ℕ) → List ℕ → Out ℕ
+weighed sound held mismatch i n bs =
+    cond (not (sound && held)) (refused 1 0) (cond mismatch (refused 2 0) (cond (ltb i n) (refused 3 i) (list bs)))
 
 -- n bytes have no room
 pub data NoRoom (room n : ℕ) : Type 0 where

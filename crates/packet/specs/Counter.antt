@@ -1,5 +1,5 @@
 -- Counters and gaps (document 01, 'Counters and kinds'), over the counter's width w in bytes; a width of 0 is no counter.
-use Prim.Native.Nat.{ℕ, zero, suc, _+_, _-_, _%_, _^_}
+use Prim.Native.Nat.{ℕ, zero, suc, _+_, _-_, _%_, _^_, _<_, _≤_}
 use mathlib.Core.Bool.{Bool, cond, _||_}
 use lib.Dec.{eqb, ltb}
 use Rattle.packet.specs.declared.Counter.{Counter}
@@ -11,17 +11,22 @@ fresh = record { known = 0; expected = 0 }
 abbrev pub holds : ℕ → ℕ → Bool
 holds w n = eqb w 0 || ltb n (256 ^ w)
 
--- with CTR, a known expected counter does not exceed the counter's size less 1
+-- with CTR, a number that exceeds the counter's size less 1
+pub record Exceeds (w n : ℕ) : Type 0 where
+  pub carried : 0 < w
+  pub over : 256 ^ w ≤ n
+
+-- a state whose expected counter, if it is known, does not
 unfoldable pub valid : ℕ → Counter → Bool
 valid w s = eqb (s .known) 0 || holds w (s .expected)
 
 -- c less e, modulo the counter's size
-abbrev pub apart : ℕ → ℕ → ℕ → ℕ
-apart w c e = (c + (256 ^ w - e)) % 256 ^ w
+abbrev pub difference : ℕ → ℕ → ℕ → ℕ
+difference w c e = (c + (256 ^ w - e)) % 256 ^ w
 
 -- the gap of a message with counter c: 0 from a fresh state, and 0 of a message that carries none
 unfoldable pub gap : ℕ → Counter → ℕ → ℕ
-gap w s c = cond (eqb w 0 || eqb (s .known) 0) 0 (apart w c (s .expected))
+gap w s c = cond (eqb w 0 || eqb (s .known) 0) 0 (difference w c (s .expected))
 
 -- the counter after c; c itself where there is none
 unfoldable pub next : ℕ → ℕ → ℕ

@@ -13,7 +13,7 @@ slave b = cond (eqb b 0xFF) 1 (cond (eqb b 0xFE) 2 (cond (eqb b 0xFD) 3 (cond (e
 abbrev pub master : ℕ → ℕ
 master b = cond (leb 0xC0 b) 6 7
 
--- direction 0 is from the slave, 1 from the master. Nothing has a kind where there is no byte, or no such direction
+-- direction 0 is from the slave, 1 from the master; 0 where there is no byte, and for any other direction
 abbrev pub kindOf : ℕ → List ℕ → ℕ
 kindOf d p =
     cond (eqb (length p) 0) 0

@@ -2,7 +2,7 @@
 use Prim.Native.Nat.{ℕ, suc, _+_, _<_, _≤_}
 use mathlib.Core.Path.{_≡_}
 use mathlib.Core.Bool.{Bool, cond, not, _||_}
-use mathlib.Core.List.{List, [], _∷_}
+use mathlib.Core.List.{List, [], _∷_, _++_}
 use lib.ListN.{length, take, drop}
 use lib.Dec.{ltb, eqb}
 use Rattle.packet.specs.Limit.{mostLengths}
@@ -10,6 +10,10 @@ use Rattle.packet.specs.Limit.{mostLengths}
 abbrev pub sum : List ℕ → ℕ
 sum [] = 0
 sum (n ∷ ns) = n + sum ns
+
+abbrev pub joined : List (List ℕ) → List ℕ
+joined [] = []
+joined (b ∷ bs) = b ++ joined bs
 
 -- the packets of these lengths, one behind another
 unfoldable pub packets : List ℕ → List ℕ → List (List ℕ)
@@ -22,7 +26,7 @@ mismatched ns bs = ltb mostLengths (length ns) || not (eqb (sum ns) (length bs))
 
 pub record Matched (ns bs : List ℕ) : Type 0 where
   pub few : length ns ≤ mostLengths
-  pub sum : sum ns ≡ length bs
+  pub same : sum ns ≡ length bs
 
 pub data Mismatch (ns bs : List ℕ) : Type 0 where
   many : mostLengths < length ns → Mismatch ns bs

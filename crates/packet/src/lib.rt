@@ -1,6 +1,6 @@
 // What every transport shares: a message that was found, the counter state, kinds, parts of an input, and the answers.
 ghost use mathlib.Core.Path.{_≡_};
-ghost use Rattle.packet.specs.Counter.{apart, fresh};
+ghost use Rattle.packet.specs.Counter.{difference, fresh};
 ghost use Rattle.packet.specs.Kind.{slave, master, kindOf};
 ghost use Rattle.packet.specs.Part.{partOf, checkOf};
 
@@ -71,14 +71,14 @@ impl Counter {
 
 // Received less expected, modulo the size of a counter of one byte. The subtraction wraps on purpose.
 pub fn gap8(received: u8, expected: u8) -> u8
-    ensures { λ r. ⌜ r ≡ apart 1 received expected ⌝ }
+    ensures { λ r. ⌜ r ≡ difference 1 received expected ⌝ }
 {
     std::num::wrapping_sub_u8(received, expected)
 }
 
 // The same for a counter of two bytes.
 pub fn gap16(received: u16, expected: u16) -> u16
-    ensures { λ r. ⌜ r ≡ apart 2 received expected ⌝ }
+    ensures { λ r. ⌜ r ≡ difference 2 received expected ⌝ }
 {
     std::num::wrapping_sub_u16(received, expected)
 }
@@ -104,7 +104,7 @@ fn kind_from_master(b: u8) -> u32
     }
 }
 
-// The kind of the packet that starts the part, by its first byte; 0 of an empty part, and for a direction that is none.
+// The kind of the packet at the part's start, by its first byte; 0 for an empty part or a direction above 1.
 pub fn kind(direction: u32, packet: &[u8]) -> u32
     ensures { λ r. ⌜ r ≡ kindOf direction (now (packet .entry)) ⌝ }
 {

@@ -23,6 +23,7 @@ use Rattle.usb.specs.Writing as UsbWriting
 use Rattle.flexray.specs.declared.Setting as FlexRaySetting
 use Rattle.flexray.specs.Setting as F
 use Rattle.flexray.specs.Reading as FlexRayReading
+use Rattle.flexray.specs.Row as FlexRayRow
 use Rattle.flexray.specs.Writing as FlexRayWriting
 
 -- U1 in the packing given, U2, and R
@@ -120,7 +121,7 @@ unfolding U1 U2 R R0 expecting spare rows unread bytes example usb-reads usb-wri
     pad walk go valid gap next later advance row table behind packets mismatched first settled weighed
     U.headers U.sound UsbReading.lenAt UsbReading.judge UsbReading.seen UsbReading.ahead UsbReading.judged UsbReading.readOf
     UsbWriting.restBytes UsbWriting.permits UsbWriting.skipped UsbWriting.write UsbWriting.misfit UsbWriting.composed UsbWriting.writeOf
-    F.headers F.start F.moved F.sound FlexRayReading.seen FlexRayReading.ahead FlexRayReading.judged FlexRayReading.frameTable
-    FlexRayReading.frameState FlexRayReading.readOf FlexRayWriting.evening FlexRayWriting.further FlexRayWriting.frame
+    F.headers F.start F.moved F.sound FlexRayReading.seen FlexRayReading.ahead FlexRayReading.judged FlexRayRow.frameTable
+    FlexRayRow.frameState FlexRayReading.readOf FlexRayWriting.evening FlexRayWriting.further FlexRayWriting.frame
     FlexRayWriting.spansBehind FlexRayWriting.spans FlexRayWriting.misfit FlexRayWriting.miscounted FlexRayWriting.composed FlexRayWriting.writeOf
 starred = refl

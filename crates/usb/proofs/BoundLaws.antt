@@ -4,16 +4,16 @@ use native.Mathlib.Omega.{arith}
 use native.Mathlib.Nat.{zero-add, add-zero, mod-lt, div-add-mod', mul-div-cancel, mul-le-mul-left, lt-of-mul-lt-mul-right}
 use mathlib.Core.Path.{_≡_, refl}
 use mathlib.Core.Bool.{Bool, true, false, cond}
-use mathlib.Core.List.{List, [], _∷_, _++_}
-use lib.ListN.{length, length-append}
+use mathlib.Core.List.{List, [], _∷_}
+use lib.ListN.{length}
 use lib.Dec.{leb}
 use borrow.Author.Tests.{leb-false}
 use Rattle.packet.specs.Counter.{next}
 use Rattle.usb.specs.declared.Setting.{Setting}
 use Rattle.usb.specs.Setting.{H, W, whole, sound}
-use Rattle.usb.specs.Writing.{restBytes, messageBytes, permits, skipped, write}
+use Rattle.usb.specs.Writing.{permits, skipped, write}
 use Rattle.usb.proofs.SettingLaws.{Good, good, into, cut-at}
-use Rattle.usb.proofs.WrittenLaws.{rest-length, message-length}
+use Rattle.usb.proofs.WrittenLaws.{write-length}
 
 -- the messages' total
 abbrev pub total : Setting → List (List ℕ) → ℕ
@@ -50,19 +50,13 @@ module _ (s : Setting) (g : Good s) (fill : ℕ) (stream : s .packing ≡ 2) whe
 
   bounded : (q c : ℕ) (bs : List (List ℕ))
       → q + length (write s fill false q c bs) + (H s - 1) * full q ≤ q + total s bs + (H s - 1) * full (q + length (write s fill false q c bs))
-  unfolding write
-  bounded q c [] = rw (add-zero q) (omega arith)
+  bounded q c [] = unfold write in rw (add-zero q) (omega arith)
   bounded q c (b ∷ bs) =
       let i : ℕ = q + skipped s q (length b) + whole s (length b) in
-      let w : List ℕ = write s fill false i (next (W s) c) bs in
-      let l : length (restBytes s fill (skipped s q (length b)) ++ (messageBytes s fill c b ++ w))
-      ≡ skipped s q (length b) + (whole s (length b) + length w) =
-      rw (length-append, length-append (messageBytes s fill c b) w, rest-length s g fill, message-length s g fill c b) in
-      let d : q + length (restBytes s fill (skipped s q (length b)) ++ (messageBytes s fill c b ++ w)) ≡ i + length w = omega arith in
       let cut : 0 < s .datapacket = omega (arith, g .cut) in
       let m : (H s - 1) * full (q + skipped s q (length b)) ≤ (H s - 1) * full i =
       mul-le-mul-left (H s - 1) (div-mono (s .datapacket) (q + skipped s q (length b)) i cut (omega arith)) in
-      rw d (omega (arith, paid q (length b), m, bounded i (next (W s) c) bs))
+      rw (write-length s g fill false q c b bs) (omega (arith, paid q (length b), m, bounded i (next (W s) c) bs))
 
 -- without filling up, a streamed transfer is at most the messages' total plus H - 1 for each full data packet
 pub stream-bound : (s : Setting) → sound s ≡ true → s .packing ≡ 2 → (fill c : ℕ) (bs : List (List ℕ))

@@ -1,5 +1,5 @@
 -- What is laid out at a place is what the step sees there, and what it sees is laid out: messages, rests, and broken rules.
-use Prim.Native.Nat.{ℕ, _+_, _-_, _%_, _<_, _≤_, min}
+use Prim.Native.Nat.{ℕ, _+_, _-_, _%_, _<_, _≤_}
 use native.Mathlib.Omega.{arith}
 use mathlib.Core.Path.{_≡_, refl, sym, ap, _∙_}
 use mathlib.Core.Bool.{Bool, true, false, cond}
@@ -8,7 +8,7 @@ use lib.ListN.{length, take, drop, length-append, length-drop, drop-of-length-le
 use lib.Seq.{take-at}
 use lib.Dec.{ltb}
 use borrow.Author.Tests.{ltb-true, ltb-false, lt-ltb, le-ltb}
-use Rattle.layout.specs.Field.{size, says, Kind.LEN, Kind.CTR}
+use Rattle.layout.specs.Field.{says, Name.LEN, Name.CTR}
 use Rattle.layout.specs.Multiple.{pad}
 use Rattle.layout.specs.Walk.{Step, Forward, Leads, Step.done, Step.entry, Step.pass, Step.fault, Leads.here, Leads.takes, Leads.skips}
 use Rattle.layout.proofs.FieldLaws.{says-here, says-drop}
@@ -18,10 +18,10 @@ use Rattle.packet.specs.Message.{Msg}
 use Rattle.packet.specs.Seen.{asStep}
 use Rattle.usb.specs.declared.Setting.{Setting}
 use Rattle.usb.specs.declared.Verdict.{Verdict}
-use Rattle.usb.specs.declared.Verdict.the-variants.{Stop, TakeRest, TakeMessage, Refuse}
+use Rattle.usb.specs.declared.Verdict.the-variants.{TakeRest, TakeMessage}
 use Rattle.usb.specs.Setting.{fields, H, whole}
 use Rattle.usb.specs.Layout.{Message, Reaches, Rest, Laid}
-use Rattle.usb.specs.Reading.{space, lenAt, room, judge, answer, seen, step}
+use Rattle.usb.specs.Reading.{space, lenAt, room, answer, seen, step}
 use Rattle.usb.specs.Refusal.{Header, Past, Broken}
 use Rattle.usb.proofs.SettingLaws.{Good, into}
 use Rattle.usb.proofs.StepLaws.{Open, Judged, judged, decided}
@@ -49,6 +49,13 @@ module _ (s : Setting) (t : List ℕ) where
 
 ---- From a layout to the steps -------------------------------------------------------------------------------------------------
 
+-- a message has just the bytes that its packet's length gives it
+pub message-whole : (s : Setting) → Good s → (q : ℕ) (h b e : List ℕ) → Message s q h b e → length h + length b + length e ≡ whole s (length b)
+message-whole s g q h b e m =
+    let hs : length h ≡ H s = m .header in
+    let y = pad-only (s .align) (H s + length b) (length e) (g .align) (omega (arith, m .short)) (rw (← hs) (m .whole)) in
+    omega arith
+
 module _ (s : Setting) (g : Good s) (t : List ℕ) where
   at-message : (q : ℕ) (h b e bs : List ℕ) → Message s q h b e → h ++ (b ++ (e ++ bs)) ≡ drop q t
       → step s t q ≡ entry (record { at = q + length h; packet = b; ctr = says CTR (fields s) h 0 }) (q + (length h + length b + length e))
@@ -57,9 +64,7 @@ module _ (s : Setting) (g : Good s) (t : List ℕ) where
       let hs : length h ≡ H s = m .header in
       let n : lenAt s t q ≡ length b =
       len-fits s t q (omega arith) ∙ says-here LEN (fields s) q t h (b ++ (e ++ bs)) (omega arith) c ∙ m .len in
-      let y : length e ≡ pad (s .align) (H s + length b) =
-      pad-only (s .align) (H s + length b) (length e) (g .align) (omega (arith, m .short)) (rw (← hs) (m .whole)) in
-      let k : whole s (length b) ≡ length h + length b + length e = omega arith in
+      let k : whole s (length b) ≡ length h + length b + length e = sym (message-whole s g q h b e m) in
       let o : Open s (q % s .datapacket) (length t - q) = record { some = omega arith; first = m .first } in
       let j : Judged s (q % s .datapacket) (length t - q) (lenAt s t q) TakeMessage =
       Judged.message o (omega arith) (omega arith) (rw n (fits (ltb (s .packing) 2) refl ls k)) in

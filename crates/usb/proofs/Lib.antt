@@ -1,6 +1,8 @@
 pub mod BoundLaws
+pub mod FirstLaws
 pub mod LaidLaws
 pub mod ReadLaws
+pub mod RefusalLaws
 pub mod SettingLaws
 pub mod StepLaws
 pub mod WriteLaws

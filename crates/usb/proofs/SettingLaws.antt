@@ -7,7 +7,7 @@ use mathlib.Core.Bool.{Bool, true, _&&_, _||_}
 use mathlib.Core.List.{List, []}
 use lib.Dec.{leb, ltb, eqb}
 use borrow.Author.Tests.{ltb-true, leb-true, eqb-true}
-use Rattle.layout.specs.Field.{Field, size, place, width, Kind.LEN}
+use Rattle.layout.specs.Field.{Field, size, place, width, Name.LEN}
 use Rattle.layout.proofs.FieldLaws.{inside}
 use Rattle.layout.proofs.TableLaws.{all-at, all-given}
 use Rattle.layout.proofs.TestLaws.{and-left, and-right}

@@ -1,33 +1,36 @@
 -- Demand 2 for the USB writer: what it writes is laid out as the packets that were given and reads back as the same list; and each refusal,
 -- with its number and place, is given exactly when document 01's table says so.
-use Prim.Native.Nat.{ℕ, _+_, _<_, _≤_}
+use Prim.Native.Nat.{ℕ, _*_, _<_, _≤_}
 use native.Mathlib.Omega.{arith}
-use native.Mathlib.Nat.{zero-add}
-use mathlib.Core.Path.{_≡_, refl, sym, ap, _∙_}
+use mathlib.Core.Path.{_≡_, refl, sym, _∙_}
 use mathlib.Core.Bool.{Bool, true, false, _&&_, _||_}
 use mathlib.Core.Logic.{_↔_}
-use mathlib.Core.List.{List, [], map}
-use lib.ListN.{length, getD, take, drop}
+use mathlib.Core.List.{List, map}
+use lib.ListN.{length, take, drop}
 use lib.Dec.{ltb, eqb}
-use borrow.Author.Tests.{ltb-true, ltb-false, eqb-true, eqb-false, lt-ltb, le-ltb, eq-eqb, ne-eqb}
-use Rattle.layout.specs.Walk.{Out, Out.list, Out.refused}
+use borrow.Author.Tests.{ltb-true, ltb-false, eqb-true, eqb-false}
 use Rattle.layout.proofs.TestLaws.{Tells, Tells.passes, Tells.fails, why-passed, why-failed, passed, failed}
+use Rattle.packet.specs.declared.Counter.{Counter}
+use Rattle.packet.specs.declared.Reading.the-variants as R
 use Rattle.packet.specs.declared.Writing.the-variants as W
 use Rattle.packet.specs.Message.{Msg}
-use Rattle.packet.specs.Counter.{holds, later}
+use Rattle.packet.specs.Counter.{valid, holds, later}
+use Rattle.packet.specs.Row.{table, behind}
 use Rattle.packet.specs.Packets.{packets, mismatched, first, Matched}
-use Rattle.packet.specs.Limit.{mostBytes}
-use Rattle.packet.proofs.WriterLaws.{Unwritten, Written, why-written, wrote-front, kept-past, kept-out, exactly-unwritten}
-use Rattle.packet.proofs.PacketsLaws.{packets-lengths, mismatch-tells, not-both, fit-before, unfit-there, index-is, index-none, each, each-length}
+use Rattle.packet.specs.Answer.{writeNumber, writeCounter}
+use Rattle.packet.proofs.CounterLaws.{exceeds, not-held}
+use Rattle.packet.proofs.WriterLaws.{Unwritten, Written, why-written, wrote-front, kept-past, write-keeps, exactly-unwritten, exactly-written}
+use Rattle.packet.proofs.PacketsLaws.{packets-lengths, length-packets, mismatch-tells, not-both, each, each-length}
+use Rattle.packet.proofs.PacketsLaws.{fit-before, unfit-there, index-is, index-none}
 use Rattle.usb.specs.declared.Setting.{Setting}
 use Rattle.usb.specs.Setting.{W, whole, sound}
 use Rattle.usb.specs.Layout.{Transfer}
-use Rattle.usb.specs.Reading.{judged}
+use Rattle.usb.specs.Reading.{readOf}
 use Rattle.usb.specs.Writing.{write, placed, misfit, composed, writeOf}
-use Rattle.usb.specs.Refusal.{Fit, Unfit, Willing, WriteRefusal}
-use Rattle.usb.proofs.SettingLaws.{Good, good}
-use Rattle.usb.proofs.ReadLaws.{read-complete}
-use Rattle.usb.proofs.WrittenLaws.{laid-out}
+use Rattle.usb.specs.Refusal.{Fine, ReadAccept, Fit, Unfit, WriteRefusal, WriteAccept}
+use Rattle.usb.proofs.SettingLaws.{good}
+use Rattle.usb.proofs.RefusalLaws.{accepted-exactly, accepted-rows}
+use Rattle.usb.proofs.WrittenLaws.{laid-out, placed-packets, placed-length}
 
 ---- Lengths that fit -----------------------------------------------------------------------------------------------------------
 
@@ -87,7 +90,7 @@ module _ (s : Setting) (bs ns : List ℕ) (c fill : ℕ) (full : Bool) (out : Li
       let w = accepted e in
       let m : Matched ns bs = why-failed (mismatch-tells ns bs) (w .matched) in
       let f = each (Fit s) 0 ns (fit-before (misfit s) (misfit-tells s) 0 ns (length ns) (w .fit)) in
-      let fits = each-length (Fit s) (packets ns bs) (rw (packets-lengths ns bs (m .sum)) f) in
+      let fits = each-length (Fit s) (packets ns bs) (rw (packets-lengths ns bs (m .same)) f) in
       let g = good s (w .ready .setting) in
       rw (written-front k d e)
       (record {
@@ -96,18 +99,31 @@ module _ (s : Setting) (bs ns : List ℕ) (c fill : ℕ) (full : Bool) (out : Li
         laid = laid-out s g fill full 0 c (length bytes) (packets ns bs) fits (w .ready .counter) (omega arith);
       })
 
-  -- and reads back as the same list
+  -- and reads back as the same list, with every state that is not refused and every table that has room
   pub round-trip : (k d : ℕ) → writeOf s bs ns c fill full out .answer ≡ W.Bytes k d
-      → judged s (take k (writeOf s bs ns c fill full out .lent)) ≡ list (placed s 0 c (packets ns bs))
-  round-trip k d e =
-      read-complete s (take k (writeOf s bs ns c fill full out .lent)) (placed s 0 c (packets ns bs)) (written-laid k d e)
+      → (e : Counter) (rows : List ℕ) → valid (W s) e ≡ true → 5 * length ns ≤ length rows
+      → (readOf s (take k (writeOf s bs ns c fill full out .lent)) e rows .answer ≡ R.Rows (length ns) (behind (W s) e (placed s 0 c (packets ns bs))))
+      × (take (5 * length ns) (readOf s (take k (writeOf s bs ns c fill full out .lent)) e rows .lent)
+      ≡ table (s .direction) (W s) e (placed s 0 c (packets ns bs)))
+      × (map (λ m. m .packet) (placed s 0 c (packets ns bs)) ≡ packets ns bs)
+  round-trip k d w e rows v l =
+      let t : List ℕ = take k (writeOf s bs ns c fill full out .lent) in
+      let ms : List Msg = placed s 0 c (packets ns bs) in
+      let x : Transfer s ms t = written-laid k d w in
+      let g = good s (x .setting) in
+      let p : map (λ m. m .packet) ms ≡ packets ns bs = placed-packets s g fill 0 c (packets ns bs) in
+      let n : length ms ≡ length ns = placed-length s g fill 0 c (packets ns bs) ∙ length-packets ns bs in
+      let f : Fine s e = record { setting = x .setting; counter = v } in
+      let a : ReadAccept s t e (length rows) (length ns) (behind (W s) e ms) =
+      record { fine = f; messages = ms; transfer = x; room = omega arith; count = sym n; state = refl } in
+      (accepted-exactly s t e rows (length ns) (behind (W s) e ms) .1 a, rw n at (accepted-rows s t e rows ms f x (omega arith) .0), p)
 
   ---- Refused exactly when -------------------------------------------------------------------------------------------------------
 
   by-table : {n p : ℕ} → Unwritten (sound s) (holds (W s) c) (mismatched ns bs) index (length ns) bytes (length out) n p
       → WriteRefusal s bs ns c fill full (length out) n p
   by-table (Unwritten.unsound e) = WriteRefusal.setting e
-  by-table (Unwritten.over e) = WriteRefusal.counter e
+  by-table (Unwritten.over e) = WriteRefusal.counter (exceeds (W s) c e)
   by-table (Unwritten.mismatched r m) = WriteRefusal.mismatch r (why-passed (mismatch-tells ns bs) m)
   by-table (Unwritten.misfit r m l) =
       WriteRefusal.unfit r (why-failed (mismatch-tells ns bs) m) l
@@ -118,7 +134,7 @@ module _ (s : Setting) (bs ns : List ℕ) (c fill : ℕ) (full : Bool) (out : Li
   to-table : {n p : ℕ} → WriteRefusal s bs ns c fill full (length out) n p
       → Unwritten (sound s) (holds (W s) c) (mismatched ns bs) index (length ns) bytes (length out) n p
   to-table (WriteRefusal.setting e) = Unwritten.unsound e
-  to-table (WriteRefusal.counter e) = Unwritten.over e
+  to-table (WriteRefusal.counter x) = Unwritten.over (not-held (W s) c x)
   to-table (WriteRefusal.mismatch r m) = Unwritten.mismatched r (passed (not-both ns bs) (mismatch-tells ns bs) m)
   to-table (WriteRefusal.unfit {i = i} r m l f u) =
       let x : index ≡ i = index-is (misfit s) (misfit-tells s) 0 ns (not-both-fit s) i l f u in
@@ -133,7 +149,39 @@ module _ (s : Setting) (bs ns : List ℕ) (c fill : ℕ) (full : Bool) (out : Li
   write-refused-exactly n p =
       exactly-unwritten (sound s) (holds (W s) c) (mismatched ns bs) index (length ns) bytes out after by-table to-table
 
-  -- a refusal leaves the output
-  pub write-refused-keeps : (n p : ℕ) → writeOf s bs ns c fill full out .answer ≡ W.Refused n p → writeOf s bs ns c fill full out .lent ≡ out
+  -- a refusal leaves the output and the counter
+  pub write-refused-keeps : 0 < writeNumber (writeOf s bs ns c fill full out .answer)
+      → (writeOf s bs ns c fill full out .lent ≡ out) × (writeCounter c (writeOf s bs ns c fill full out .answer) ≡ c)
   unfolding writeOf composed
-  write-refused-keeps n p e = kept-out (sound s) (holds (W s) c) (mismatched ns bs) index (length ns) bytes out after e
+  write-refused-keeps = write-keeps (sound s) (holds (W s) c) (mismatched ns bs) index (length ns) bytes out after c
+
+  pub written-exactly : (k d : ℕ) → (writeOf s bs ns c fill full out .answer ≡ W.Bytes k d) ↔ WriteAccept s bs ns c fill full (length out) k d
+  unfolding writeOf composed
+  written-exactly k d = exactly-written (sound s) (holds (W s) c) (mismatched ns bs) index (length ns) bytes out after from to
+    where
+      from : Written (sound s) (holds (W s) c) (mismatched ns bs) index (length ns) bytes (length out) after k d
+          → WriteAccept s bs ns c fill full (length out) k d
+      from w =
+          record {
+            willing = w .ready;
+            matched = why-failed (mismatch-tells ns bs) (w .matched);
+            fit = fit-before (misfit s) (misfit-tells s) 0 ns (length ns) (w .fit);
+            room = w .room;
+            most = w .most;
+            count = w .count;
+            next = w .counter;
+          }
+
+      to : WriteAccept s bs ns c fill full (length out) k d
+          → Written (sound s) (holds (W s) c) (mismatched ns bs) index (length ns) bytes (length out) after k d
+      to w =
+          let x : index ≡ length ns = index-none (misfit s) (misfit-tells s) 0 ns (not-both-fit s) (w .fit) in
+          record {
+            ready = w .willing;
+            matched = failed (not-both ns bs) (mismatch-tells ns bs) (w .matched);
+            fit = omega arith;
+            room = w .room;
+            most = w .most;
+            count = w .count;
+            counter = w .next;
+          }

@@ -1,20 +1,20 @@
 -- What is written is laid out as the packets that were given, with their counters: each message stands where the layout permits one.
-use Prim.Native.Nat.{ℕ, suc, _+_, _-_, _*_, _/_, _%_, _^_, _<_, _≤_}
+use Prim.Native.Nat.{ℕ, zero, suc, _+_, _-_, _/_, _%_, _<_, _≤_}
 use native.Mathlib.Omega.{arith}
 use native.Mathlib.Nat.{add-zero, mul-mod-left}
-use mathlib.Core.Path.{_≡_, refl, sym, ap, _∙_}
+use mathlib.Core.Path.{_≡_, refl, ap, _∙_}
 use mathlib.Core.Bool.{Bool, true, false, cond, _&&_, _||_}
 use mathlib.Core.List.{List, [], _∷_, _++_, append-nil, append-assoc, map}
-use lib.ListN.{length, replicate, length-append, length-replicate}
+use lib.ListN.{length, getD, replicate, length-append, length-replicate}
 use lib.Dec.{leb, ltb, eqb}
-use borrow.Author.Tests.{ltb-true, ltb-false, leb-true, eqb-true, eqb-false, lt-ltb, eq-eqb}
-use Rattle.layout.specs.Field.{width, bytes, says, values, puts, Kind.LEN, Kind.CTR}
+use borrow.Author.Tests.{ltb-true, ltb-false, leb-true, eqb-true, eqb-false, lt-ltb, eq-eqb, ne-eqb}
+use Rattle.layout.specs.Field.{width, says, values, puts, Name.LEN, Name.CTR}
 use Rattle.layout.specs.Multiple.{pad}
-use Rattle.layout.proofs.FieldLaws.{inside, le-bytes, length-bytes, length-puts, says-puts}
+use Rattle.layout.proofs.FieldLaws.{inside, number-bytes, length-bytes, length-puts, says-puts}
 use Rattle.layout.proofs.MultipleLaws.{pad-less, pad-whole}
 use Rattle.layout.proofs.TestLaws.{and-right, or-right}
 use Rattle.packet.specs.Message.{Msg}
-use Rattle.packet.specs.Counter.{holds, next}
+use Rattle.packet.specs.Counter.{holds, next, later}
 use Rattle.packet.proofs.CounterLaws.{said-counter, next-holds}
 use Rattle.packet.proofs.PacketsLaws.{Each}
 use Rattle.usb.specs.declared.Setting.{Setting}
@@ -86,7 +86,7 @@ module _ (s : Setting) (g : Good s) (fill : ℕ) where
           let h : H s ≤ n = ltb-false n (H s) gb in
           Rest.zeroed (omega (arith, eqb-false (s .packing) 0 ga))
           (simp (length-append, length-replicate, length-bytes) (omega (arith, inside LEN (fields s))))
-          (rw (g .first) (le-bytes (width LEN (fields s)) 0 (replicate (n - width LEN (fields s)) fill) (omega arith)))
+          (rw (g .first) (number-bytes (width LEN (fields s)) 0 (replicate (n - width LEN (fields s)) fill) (omega arith)))
 
   -- the rest of the data packet at q, and what is laid out behind it
   skip : (q : ℕ) {p : ℕ} {cs : List ℕ} {ms : List Msg} {bs : List ℕ} → (s .packing ≡ 0 → 0 < q % s .datapacket)
@@ -163,6 +163,16 @@ module _ (s : Setting) (g : Good s) (fill : ℕ) where
           let j : ℕ = q + (s .datapacket - q % s .datapacket) in
           skip q (not-first q (length b) e) (lay-message j c b k v (starts j (length b) k (next-packet q)) l)
 
+  -- behind a message the rest of the list is written from where the message ends
+  pub write-length : (full : Bool) (q c : ℕ) (b : List ℕ) (bs : List (List ℕ))
+      → q + length (write s fill full q c (b ∷ bs))
+      ≡ q + skipped s q (length b) + whole s (length b)
+      + length (write s fill full (q + skipped s q (length b) + whole s (length b)) (next (W s) c) bs)
+  unfolding write
+  write-length full q c b bs =
+      let w : List ℕ = write s fill full (q + skipped s q (length b) + whole s (length b)) (next (W s) c) bs in
+      rw (length-append, length-append (messageBytes s fill c b) w, rest-length, message-length c b) (omega arith)
+
   -- the list from place q on, up to where the transfer ends
   pub laid-out : (full : Bool) (q c p : ℕ) (bs : List (List ℕ)) → Each (λ b. Fit s (length b)) bs → holds (W s) c ≡ true
       → p ≡ q + length (write s fill full q c bs) → Laid s p [] q (placed s q c bs) (write s fill full q c bs)
@@ -181,14 +191,24 @@ module _ (s : Setting) (g : Good s) (fill : ℕ) where
       at false e d = let j : q ≡ p = omega arith in rw j Laid.here
   laid-out full q c p (b ∷ bs) k v d =
       let i : ℕ = q + skipped s q (length b) + whole s (length b) in
-      let w : List ℕ = write s fill full i (next (W s) c) bs in
-      let l : length (restBytes s fill (skipped s q (length b)) ++ (messageBytes s fill c b ++ w))
-      ≡ skipped s q (length b) + (whole s (length b) + length w) =
-      rw (length-append, length-append (messageBytes s fill c b) w, rest-length, message-length c b) in
-      one q c b (k .0) v (laid-out full i (next (W s) c) p bs (k .1) (next-holds (W s) c v) (omega arith))
+      one q c b (k .0) v (laid-out full i (next (W s) c) p bs (k .1) (next-holds (W s) c v) (d ∙ write-length full q c b bs))
 
   -- and its packets are those that were given
   pub placed-packets : (q c : ℕ) (bs : List (List ℕ)) → map (λ m. m .packet) (placed s q c bs) ≡ bs
   unfolding placed
   placed-packets q c [] = refl
   placed-packets q c (b ∷ bs) = ap (λ l. b ∷ l) (placed-packets (q + skipped s q (length b) + whole s (length b)) (next (W s) c) bs)
+
+  pub placed-length : (q c : ℕ) (bs : List (List ℕ)) → length (placed s q c bs) ≡ length bs
+  unfolding placed
+  placed-length q c [] = refl
+  placed-length q c (b ∷ bs) = ap suc (placed-length (q + skipped s q (length b) + whole s (length b)) (next (W s) c) bs)
+
+  -- with their counters, one after another from the first
+  pub placed-counter : (d : Msg) (q c : ℕ) (bs : List (List ℕ)) (i : ℕ) → 0 < W s → i < length bs
+      → getD (placed s q c bs) i d .ctr ≡ later (W s) i c
+  unfolding placed later
+  placed-counter d q c [] i w l = absurd (omega arith)
+  placed-counter d q c (b ∷ bs) zero w l = rw (ne-eqb (W s) 0 (omega arith))
+  placed-counter d q c (b ∷ bs) (suc i) w l =
+      placed-counter d (q + skipped s q (length b) + whole s (length b)) (next (W s) c) bs i w (omega arith)

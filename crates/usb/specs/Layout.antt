@@ -5,7 +5,7 @@ use mathlib.Core.Path.{_≡_}
 use mathlib.Core.Bool.{true}
 use mathlib.Core.List.{List, [], _∷_, _++_}
 use lib.ListN.{length}
-use Rattle.layout.specs.Field.{says, Kind.LEN, Kind.CTR}
+use Rattle.layout.specs.Field.{says, Name.LEN, Name.CTR}
 use Rattle.packet.specs.Message.{Msg}
 use Rattle.packet.specs.Limit.{mostBytes}
 use Rattle.usb.specs.declared.Setting.{Setting}
@@ -32,7 +32,7 @@ pub record Reaches (s : Setting) (q : ℕ) (r bs : List ℕ) : Type 0 where
   pub some : 0 < length r
   pub full : length r ≡ min (s .datapacket - q % s .datapacket) (length r + length bs)
 
--- what its bytes may be: any behind a single message; else fewer than a header's, or a header's LEN that is zero and any bytes
+-- what its bytes may be: behind a single message any; else fewer than H, or at least H with LEN zero
 pub data Rest (s : Setting) (q : ℕ) (r : List ℕ) : Type 0 where
   any : s .packing ≡ 0 → 0 < q % s .datapacket → Rest s q r
   few : 0 < s .packing → length r < H s → Rest s q r

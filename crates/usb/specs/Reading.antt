@@ -4,7 +4,7 @@ use mathlib.Core.Bool.{Bool, true, false, cond, not, _&&_}
 use mathlib.Core.List.{List}
 use lib.ListN.{length}
 use lib.Dec.{ltb, eqb}
-use Rattle.layout.specs.Field.{says, Kind.LEN, Kind.CTR}
+use Rattle.layout.specs.Field.{says, Name.LEN, Name.CTR}
 use Rattle.layout.specs.Walk.{Step, Out, walk, Out.refused}
 use Rattle.packet.specs.declared.At.{At}
 use Rattle.packet.specs.declared.Counter.{Counter}
@@ -32,7 +32,8 @@ space s t q = min (s .datapacket - q % s .datapacket) (length t - q)
 unfoldable pub lenAt : Setting → List ℕ → ℕ → ℕ
 lenAt s t q = cond (ltb (space s t q) (H s)) 0 (says LEN (fields s) t q)
 
--- nothing left; behind a single message; no header or LEN zero; single packing; LEN over X; longer than there is room: the first that holds decides
+-- in this order: nothing left; behind a single message; no header or LEN zero, which is 6 in single packing and else a rest; LEN over X;
+-- longer than there is room
 abbrev pub choose : (gone behind bare single over past : Bool) → Verdict
 choose true b c d e f = Stop
 choose false true c d e f = TakeRest

@@ -4,7 +4,7 @@ use mathlib.Core.Bool.{Bool, _&&_, _||_}
 use mathlib.Core.List.{List, [], _∷_}
 use lib.ListN.{getD}
 use lib.Dec.{leb, ltb, eqb}
-use Rattle.layout.specs.Field.{Field, size, width, Kind.LEN, Kind.CTR, Kind.FILL, Field._of_}
+use Rattle.layout.specs.Field.{Field, size, width, Name.LEN, Name.CTR, Name.FILL, Field._of_}
 use Rattle.layout.specs.Multiple.{pad}
 use Rattle.usb.specs.declared.Setting.{Setting}
 
@@ -19,7 +19,7 @@ headers =
     ∷ (LEN of 2 ∷ FILL of 2 ∷ [])
     ∷ []
 
--- the header of a number; of no other number is there any field
+-- the header of a number; a number beyond the table has no field
 abbrev pub header : ℕ → List Field
 header n = getD headers n []
 
@@ -38,11 +38,22 @@ W s = width CTR (fields s)
 abbrev pub whole : Setting → ℕ → ℕ
 whole s n = H s + n + pad (s .align) (H s + n)
 
+abbrev pub aligned : ℕ → Bool
+aligned a = eqb a 1 || eqb a 2 || eqb a 4 || eqb a 8
+
+-- a multiple of 8, 8 to 1,024
+abbrev pub sized : ℕ → Bool
+sized m = leb 8 m && leb m 1024 && eqb (m % 8) 0
+
+-- 8 to the highest number that LEN can say
+abbrev pub sayable : ℕ → ℕ → Bool
+sayable n x = leb 8 x && ltb x (256 ^ width LEN (header n))
+
 unfoldable pub sound : Setting → Bool
 sound s =
     ltb (s .header) 6
     && ltb (s .packing) 3
-    && (eqb (s .align) 1 || eqb (s .align) 2 || eqb (s .align) 4 || eqb (s .align) 8)
-    && (leb 8 (s .datapacket) && leb (s .datapacket) 1024 && eqb (s .datapacket % 8) 0)
-    && (leb 8 (s .longest) && ltb (s .longest) (256 ^ width LEN (fields s)))
+    && aligned (s .align)
+    && sized (s .datapacket)
+    && sayable (s .header) (s .longest)
     && ltb (s .direction) 2

@@ -4,7 +4,7 @@ use mathlib.Core.Bool.{Bool, cond, _&&_, _||_}
 use mathlib.Core.List.{List, [], _∷_, _++_}
 use lib.ListN.{length, replicate}
 use lib.Dec.{leb, ltb, eqb}
-use Rattle.layout.specs.Field.{width, bytes, values, puts, Kind.LEN}
+use Rattle.layout.specs.Field.{width, bytes, values, puts, Name.LEN}
 use Rattle.layout.specs.Multiple.{pad}
 use Rattle.layout.specs.Walk.{Out}
 use Rattle.packet.specs.Message.{Msg}
@@ -36,7 +36,7 @@ permits s q n =
     cond (eqb (s .packing) 0) (eqb (q % s .datapacket) 0)
     (leb (q % s .datapacket + cond (eqb (s .packing) 1) (whole s n) (H s)) (s .datapacket))
 
--- the bytes passed over before such a message, which is written at place q at the earliest
+-- the bytes passed over from place q to the first place where such a message may stand
 unfoldable pub skipped : Setting → ℕ → ℕ → ℕ
 skipped s q n = cond (permits s q n) 0 (s .datapacket - q % s .datapacket)
 

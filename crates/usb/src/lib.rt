@@ -1,10 +1,8 @@
 // USB endpoints: their settings, and the table of their headers.
 ghost use mathlib.Core.Path.{_≡_};
-ghost use mathlib.Core.Bool.{_&&_, _||_};
-ghost use Prim.Native.Nat.{_≤_, _%_, _^_};
-ghost use lib.Dec.{leb, ltb, eqb};
-ghost use Rattle.layout.specs.Field.{shape as shapeOf, width, Kind.LEN};
-ghost use Rattle.usb.specs.Setting.{header as headerOf, sound as soundOf};
+ghost use Prim.Native.Nat.{_≤_, _^_};
+ghost use Rattle.layout.specs.Field.{shape as shapeOf};
+ghost use Rattle.usb.specs.Setting.{header as headerOf, aligned as alignedOf, sized as sizedOf, sayable as sayableOf, sound as soundOf};
 use layout::Shape;
 use layout::all;
 use layout::both;
@@ -42,7 +40,7 @@ const LINES: [Line; 6] = [
     Line(4, 0, 2, 4, 0),
 ];
 
-// The shape of a header by its number; of no other number has it any field.
+// The shape of a header by its number; a number beyond the table has no field.
 pub fn shape(header: u32) -> Shape
     ensures { λ r. ⌜ r ≡ shapeOf (headerOf header) ⌝ }
 {
@@ -61,14 +59,14 @@ pub fn shape(header: u32) -> Shape
 }
 
 fn aligned(a: u32) -> bool
-    ensures { λ r. ⌜ r ≡ (eqb a 1 || eqb a 2 || eqb a 4 || eqb a 8) ⌝ }
+    ensures { λ r. ⌜ r ≡ alignedOf a ⌝ }
 {
     either(either(either(a == 1, a == 2), a == 4), a == 8)
 }
 
 // 1,024 bytes are a limit of this product.
 fn sized(m: u32) -> bool
-    ensures { λ r. ⌜ r ≡ (leb 8 m && leb m 1024 && eqb (m % 8) 0) ⌝ }
+    ensures { λ r. ⌜ r ≡ sizedOf m ⌝ }
 {
     all(8 <= m, m <= 1024, m % 8 == 0)
 }
@@ -87,7 +85,7 @@ fn numbers(width: usize) -> u32
 
 // A longest packet whose length the header's LEN can say.
 fn sayable(header: u32, x: u32) -> bool
-    ensures { λ r. ⌜ r ≡ (leb 8 x && ltb x (256 ^ width LEN (headerOf header))) ⌝ }
+    ensures { λ r. ⌜ r ≡ sayableOf header x ⌝ }
 {
     let k = shape(header);
     both(8 <= x, x < numbers(k.lenwidth))

@@ -1,0 +1,107 @@
+-- A transfer is refused with a number at a place exactly where document 01's table says so, and accepted exactly where nothing is refused.
+use Prim.Native.Nat.{ℕ, _*_, _<_, _≤_}
+use native.Mathlib.Omega.{arith}
+use mathlib.Core.Path.{_≡_}
+use mathlib.Core.Bool.{true}
+use mathlib.Core.Logic.{_↔_}
+use mathlib.Core.List.{List}
+use lib.ListN.{length, take, drop}
+use Rattle.layout.specs.Walk.{Out.refused}
+use Rattle.packet.specs.declared.Counter.{Counter}
+use Rattle.packet.specs.declared.Reading.the-variants as R
+use Rattle.packet.specs.Message.{Msg}
+use Rattle.packet.specs.Counter.{valid}
+use Rattle.packet.specs.Row.{table, behind}
+use Rattle.packet.specs.Answer.{readNumber, readState}
+use Rattle.packet.proofs.CounterLaws.{exceeds-known, not-valid}
+use Rattle.packet.proofs.RowLaws.{length-table}
+use Rattle.packet.proofs.ReaderLaws.{Unread, Taken, refused-anyway, read-keeps, rows-front, exactly-unread, exactly-taken}
+use Rattle.usb.specs.declared.Setting.{Setting}
+use Rattle.usb.specs.Setting.{W}
+use Rattle.usb.specs.Layout.{Transfer}
+use Rattle.usb.specs.Reading.{judged, readOf}
+use Rattle.usb.specs.Refusal.{Broken, Fine, ReadRefusal, ReadAccept}
+use Rattle.usb.proofs.ReadLaws.{Outcome, Judgement, judgement, judged-is, read-sound, read-complete}
+
+abbrev rowsOf : Setting → Counter → List Msg → List ℕ
+rowsOf s c = table (s .direction) (W s) c
+
+-- a refusal has one of the paper's numbers
+rule-number : {s : Setting} {q n : ℕ} {bs : List ℕ} → Broken s q bs n → (0 < n) × (n ≤ 8)
+rule-number (Broken.over n h x) = omega arith
+rule-number (Broken.past n h x f) = omega arith
+rule-number (Broken.short p z l f) = omega arith
+rule-number (Broken.zeroed p z l e) = omega arith
+
+pub read-number : {s : Setting} {t : List ℕ} {c : Counter} {k n p : ℕ} → ReadRefusal s t c k n p → (0 < n) × (n ≤ 8)
+read-number (ReadRefusal.setting e) = omega arith
+read-number (ReadRefusal.counter k x) = omega arith
+read-number (ReadRefusal.long f l) = omega arith
+read-number (ReadRefusal.rule f l ms x b) = rule-number b
+read-number (ReadRefusal.room f ms x l) = omega arith
+
+module _ (s : Setting) (t : List ℕ) (c : Counter) (rows : List ℕ) where
+  from-judged : {n p : ℕ} → valid (W s) c ≡ true → Judgement s t (refused n p) → ReadRefusal s t c (length rows) n p
+  from-judged v (Judgement.unsound e) = ReadRefusal.setting e
+  from-judged v (Judgement.long k l) = ReadRefusal.long (record { setting = k; counter = v }) l
+  from-judged v (Judgement.walks k l (Outcome.broken {ms = ms} x b)) = ReadRefusal.rule (record { setting = k; counter = v }) l ms x b
+
+  by-table : {n p : ℕ} → Unread (length rows) (valid (W s) c) (judged s t) n p → ReadRefusal s t c (length rows) n p
+  by-table (Unread.over e) = let (k, x) = exceeds-known (W s) c e in ReadRefusal.counter k x
+  by-table (Unread.judged v e) = from-judged v (judgement s t e)
+  by-table (Unread.crowded ms v e l) =
+      let x : Transfer s ms t = read-sound s t ms e in
+      ReadRefusal.room (record { setting = x .setting; counter = v }) ms x l
+
+  to-table : {n p : ℕ} → ReadRefusal s t c (length rows) n p → Unread (length rows) (valid (W s) c) (judged s t) n p
+  to-table (ReadRefusal.setting e) = refused-anyway (valid (W s) c) (judged-is s t (Judgement.unsound e))
+  to-table (ReadRefusal.counter k x) = Unread.over (not-valid (W s) c k x)
+  to-table (ReadRefusal.long f l) = Unread.judged (f .counter) (judged-is s t (Judgement.long (f .setting) l))
+  to-table (ReadRefusal.rule f l ms x b) = Unread.judged (f .counter) (judged-is s t (Judgement.walks (f .setting) l (Outcome.broken x b)))
+  to-table (ReadRefusal.room f ms x l) = Unread.crowded ms (f .counter) (read-complete s t ms x) l
+
+  pub refused-exactly : (n p : ℕ) → (readOf s t c rows .answer ≡ R.Refused n p) ↔ ReadRefusal s t c (length rows) n p
+  unfolding readOf
+  refused-exactly n p = exactly-unread (rowsOf s c) (behind (W s) c) rows (valid (W s) c) (judged s t) by-table to-table
+
+  -- a refusal leaves the table and the state
+  pub refused-keeps : 0 < readNumber (readOf s t c rows .answer)
+      → (readOf s t c rows .lent ≡ rows) × (readState c (readOf s t c rows .answer) ≡ c)
+  unfolding readOf
+  refused-keeps = read-keeps (rowsOf s c) (behind (W s) c) rows (valid (W s) c) (judged s t) c
+
+  pub accepted-exactly : (k : ℕ) (d : Counter) → (readOf s t c rows .answer ≡ R.Rows k d) ↔ ReadAccept s t c (length rows) k d
+  unfolding readOf
+  accepted-exactly k d = exactly-taken (rowsOf s c) (behind (W s) c) rows (valid (W s) c) (judged s t) from to
+    where
+      from : Taken (length rows) (behind (W s) c) (valid (W s) c) (judged s t) k d → ReadAccept s t c (length rows) k d
+      from y =
+          let x : Transfer s (y .messages) t = read-sound s t (y .messages) (y .judged) in
+          record {
+            fine = record { setting = x .setting; counter = y .counter };
+            messages = y .messages;
+            transfer = x;
+            room = y .room;
+            count = y .count;
+            state = y .left;
+          }
+
+      to : ReadAccept s t c (length rows) k d → Taken (length rows) (behind (W s) c) (valid (W s) c) (judged s t) k d
+      to y =
+          record {
+            messages = y .messages;
+            counter = y .fine .counter;
+            judged = read-complete s t (y .messages) (y .transfer);
+            room = y .room;
+            count = y .count;
+            left = y .state;
+          }
+
+  -- the rows of what is accepted stand at the front of the table, and those behind are unchanged
+  pub accepted-rows : (ms : List Msg) → Fine s c → Transfer s ms t → 5 * length ms ≤ length rows
+      → (take (5 * length ms) (readOf s t c rows .lent) ≡ table (s .direction) (W s) c ms)
+      × (drop (5 * length ms) (readOf s t c rows .lent) ≡ drop (5 * length ms) rows)
+  unfolding readOf
+  accepted-rows ms f x l =
+      rows-front (rowsOf s c) (behind (W s) c) rows (valid (W s) c) (judged s t) ms (f .counter) (read-complete s t ms x)
+      (length-table (s .direction) (W s) c ms) l
