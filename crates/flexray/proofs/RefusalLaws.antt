@@ -17,9 +17,9 @@ use Rattle.packet.specs.Message.{Msg}
 use Rattle.packet.specs.Answer.{readNumber, readState}
 use Rattle.packet.proofs.CounterLaws.{exceeds-known, not-valid}
 use Rattle.packet.proofs.RowLaws.{length-table}
-use Rattle.packet.proofs.ReaderLaws.{Unread, Taken, refused-anyway, read-keeps, rows-front, exactly-unread, exactly-taken}
+use Rattle.packet.proofs.ReaderLaws.{Unread, refused-anyway, read-keeps, exactly-unread, exactly-accepted, rows-front}
 use Rattle.flexray.specs.declared.Setting.{Setting}
-use Rattle.flexray.specs.Setting.{fields, H, L, W}
+use Rattle.flexray.specs.Setting.{fields, H, L, W, sound}
 use Rattle.flexray.specs.Layout.{Sized, Frame}
 use Rattle.flexray.specs.Reading.{firstLen, step, ahead, judged, readOf}
 use Rattle.flexray.specs.Row.{frameTable, frameState}
@@ -137,30 +137,9 @@ module _ (s : Setting) (t : List ℕ) (c : Counter) (rows : List ℕ) where
 
   pub accepted-exactly : (k : ℕ) (d : Counter) → (readOf s t c rows .answer ≡ R.Rows k d) ↔ ReadAccept s t c (length rows) k d
   unfolding readOf
-  accepted-exactly k d = exactly-taken (rowsOf s c) (frameState (W s) c) rows (valid (W s) c) (judged s t) from to
-    where
-      from : Taken (length rows) (frameState (W s) c) (valid (W s) c) (judged s t) k d → ReadAccept s t c (length rows) k d
-      from y =
-          let f : Frame s (y .messages) t = read-sound s t (y .messages) (y .judged) in
-          record {
-            fine = record { setting = f .setting; counter = y .counter };
-            messages = y .messages;
-            frame = f;
-            room = y .room;
-            count = y .count;
-            state = y .left;
-          }
-
-      to : ReadAccept s t c (length rows) k d → Taken (length rows) (frameState (W s) c) (valid (W s) c) (judged s t) k d
-      to y =
-          record {
-            messages = y .messages;
-            counter = y .fine .counter;
-            judged = read-complete s t (y .messages) (y .frame);
-            room = y .room;
-            count = y .count;
-            left = y .state;
-          }
+  accepted-exactly =
+      exactly-accepted (rowsOf s c) (frameState (W s) c) rows (sound s) (valid (W s) c) (judged s t) (λ ms. Frame s ms t)
+      (read-sound s t) (read-complete s t) (λ ms x. x .setting)
 
   length-frame-table : (ms : List Msg) → length (frameTable (s .direction) (W s) c ms) ≡ 5 * length ms
   unfolding frameTable
@@ -172,6 +151,6 @@ module _ (s : Setting) (t : List ℕ) (c : Counter) (rows : List ℕ) where
       → (take (5 * length ms) (readOf s t c rows .lent) ≡ frameTable (s .direction) (W s) c ms)
       × (drop (5 * length ms) (readOf s t c rows .lent) ≡ drop (5 * length ms) rows)
   unfolding readOf
-  accepted-rows ms f r l =
-      rows-front (rowsOf s c) (frameState (W s) c) rows (valid (W s) c) (judged s t) ms (f .counter) (read-complete s t ms r)
-      (length-frame-table ms) l
+  accepted-rows ms =
+      rows-front (rowsOf s c) (frameState (W s) c) rows (sound s) (valid (W s) c) (judged s t) (λ ms. Frame s ms t)
+      (read-sound s t) (read-complete s t) (λ ms x. x .setting) ms (length-frame-table ms)

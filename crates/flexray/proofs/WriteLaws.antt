@@ -127,7 +127,7 @@ module _ (s : Setting) (bs ns : List ℕ) (c fill : ℕ) (out : List ℕ) where
       let n : length ms ≡ length ns = placed-length s fill c (packets ns bs) ∙ length-packets ns bs in
       let f : Fine s e = record { setting = x .setting; counter = v } in
       let a : ReadAccept s t e (length rows) (length ns) (frameState (W s) e ms) =
-      record { fine = f; messages = ms; frame = x; room = omega arith; count = sym n; state = refl } in
+      record { fine = f; messages = ms; whole = x; room = omega arith; count = sym n; left = refl } in
       (accepted-exactly s t e rows (length ns) (frameState (W s) e ms) .1 a, rw n at (accepted-rows s t e rows ms f x (omega arith) .0))
 
   ---- Refused exactly when -------------------------------------------------------------------------------------------------------

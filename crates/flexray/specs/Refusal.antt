@@ -10,7 +10,7 @@ use Rattle.packet.specs.declared.Counter.{Counter}
 use Rattle.packet.specs.Message.{Msg}
 use Rattle.packet.specs.Counter.{valid, holds, Exceeds, later}
 use Rattle.packet.specs.Packets.{Matched, Mismatch, packets}
-use Rattle.packet.specs.Answer.{Ready, NoRoom}
+use Rattle.packet.specs.Answer.{Ready, Accepted, NoRoom}
 use Rattle.packet.specs.Limit.{mostBytes}
 use Rattle.flexray.specs.declared.Setting.{Setting}
 use Rattle.flexray.specs.Setting.{fields, H, L, W, start, moved, sound}
@@ -45,14 +45,9 @@ pub data ReadRefusal (s : Setting) (t : List ℕ) (c : Counter) (numbers : ℕ) 
   rule : {n p : ℕ} → Fine s c → Sized s t → Broken s t n p → ReadRefusal s t c numbers n p
   room : Fine s c → (ms : List Msg) → Frame s ms t → numbers < 5 * length ms → ReadRefusal s t c numbers 4 0
 
--- what it is for such a read to be accepted with k rows, and to leave the state d
-pub record ReadAccept (s : Setting) (t : List ℕ) (c : Counter) (numbers k : ℕ) (d : Counter) : Type 0 where
-  pub fine : Fine s c
-  pub messages : List Msg
-  pub frame : Frame s messages t
-  pub room : 5 * length messages ≤ numbers
-  pub count : k ≡ length messages
-  pub state : d ≡ frameState (W s) c messages
+-- such a read is accepted with k rows, and leaves the state d
+abbrev pub ReadAccept : Setting → List ℕ → Counter → ℕ → ℕ → Counter → Type 0
+ReadAccept s t c numbers k d = Accepted (Fine s c) (λ ms. Frame s ms t) (frameState (W s) c) numbers k d
 
 ---- The writer -----------------------------------------------------------------------------------------------------------------
 

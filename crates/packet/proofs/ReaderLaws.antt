@@ -13,7 +13,7 @@ use Rattle.packet.specs.declared.Counter.{Counter}
 use Rattle.packet.specs.declared.Reading.{Reading}
 use Rattle.packet.specs.declared.Reading.the-variants as R
 use Rattle.packet.specs.Message.{Msg}
-use Rattle.packet.specs.Answer.{readNumber, readState, fewNumbers, answered}
+use Rattle.packet.specs.Answer.{Ready, readNumber, readState, fewNumbers, answered, Accepted}
 use Rattle.packet.proofs.AnswerLaws.{Unsettled, Settled, Apart, refuses, accepts, why-refused, why-accepted, keeps, put-front, kept-behind}
 
 apart-read : {state : List Msg → Counter} → Apart R.Refused (λ ms. R.Rows (length ms) (state ms))
@@ -30,14 +30,9 @@ pub refused-anyway : {numbers : ℕ} {o : Out Msg} (held : Bool) → o ≡ refus
 refused-anyway false e = over refl
 refused-anyway true e = judged refl e
 
--- why it accepts with k rows and the state d
-pub record Taken (numbers : ℕ) (state : List Msg → Counter) (held : Bool) (o : Out Msg) (k : ℕ) (d : Counter) : Type 0 where
-  pub messages : List Msg
-  pub counter : held ≡ true
-  pub judged : o ≡ list messages
-  pub room : 5 * length messages ≤ numbers
-  pub count : k ≡ length messages
-  pub left : d ≡ state messages
+-- why it accepts with k rows and the state d: it is held, and what was judged is the list
+abbrev Taken : ℕ → (List Msg → Counter) → Bool → Out Msg → ℕ → Counter → Type 0
+Taken numbers state held o k d = Accepted (held ≡ true) (λ ms. o ≡ list ms) state numbers k d
 
 module _ (tab : List Msg → List ℕ) (state : List Msg → Counter) (rows : List ℕ) where
   abbrev rowsTold : List Msg → Reading
@@ -52,7 +47,7 @@ module _ (tab : List Msg → List ℕ) (state : List Msg → Counter) (rows : Li
       at (judged e d) = rw (e, d) Unsettled.judged
       at (crowded ms e d l) = rw (e, d) (Unsettled.crowded (lt-ltb (length rows) (5 * length ms) l))
 
-  pub takes : (held : Bool) (o : Out Msg) (ms : List Msg) → held ≡ true → o ≡ list ms → 5 * length ms ≤ length rows
+  takes : (held : Bool) (o : Out Msg) (ms : List Msg) → held ≡ true → o ≡ list ms → 5 * length ms ≤ length rows
       → answered tab state rows held o ≡ record { answer = R.Rows (length ms) (state ms); lent = sets rows 0 (tab ms) }
   takes held o ms e d l =
       rw (e, d) (accepts R.Refused rowsTold (fewNumbers rows) tab rows ms (le-ltb (length rows) (5 * length ms) l))
@@ -82,22 +77,13 @@ module _ (tab : List Msg → List ℕ) (state : List Msg → Counter) (rows : Li
       at true v x =
           let told : R.Rows k d ≡ R.Rows (length (x .list)) (state (x .list)) = x .told in
           record {
+            fine = v;
             messages = x .list;
-            counter = v;
-            judged = x .judged;
+            whole = x .judged;
             room = ltb-false (length rows) (5 * length (x .list)) (x .enough);
             count = cc;
             left = cc;
           }
-
-  -- what is accepted stands at the front of the table, and the rows behind are unchanged
-  pub rows-front : (held : Bool) (o : Out Msg) (ms : List Msg) → held ≡ true → o ≡ list ms → length (tab ms) ≡ 5 * length ms
-      → 5 * length ms ≤ length rows
-      → (take (5 * length ms) (answered tab state rows held o .lent) ≡ tab ms)
-      × (drop (5 * length ms) (answered tab state rows held o .lent) ≡ drop (5 * length ms) rows)
-  rows-front held o ms e d n l =
-      let r = takes held o ms e d l in
-      (rw (r, ← n) (put-front rows (tab ms) (omega arith)), rw (r, ← n) (kept-behind rows (tab ms) (omega arith)))
 
   -- a refusal, which is a number above 0, leaves the table and the state
   pub read-keeps : (held : Bool) (o : Out Msg) (c : Counter) → 0 < readNumber (answered tab state rows held o .answer)
@@ -114,10 +100,35 @@ module _ (tab : List Msg → List ℕ) (state : List Msg → Counter) (rows : Li
       → (Refusal → Unread (length rows) held o n p) → (answered tab state rows held o .answer ≡ R.Refused n p) ↔ Refusal
   exactly-unread held o from to = (λ e. from (why-unread held o e), λ r. ap (λ a. a .answer) (unread held o (to r)))
 
-  -- the same of when it accepts
-  pub exactly-taken : (held : Bool) (o : Out Msg) {k : ℕ} {d : Counter} {Accept : Type 0} → (Taken (length rows) state held o k d → Accept)
-      → (Accept → Taken (length rows) state held o k d) → (answered tab state rows held o .answer ≡ R.Rows k d) ↔ Accept
-  exactly-taken held o {k} {d} from to = (λ e. from (why-taken held o e), λ r. told (to r))
-    where
-      told : Taken (length rows) state held o k d → answered tab state rows held o .answer ≡ R.Rows k d
-      told y = rw (y .count, y .left) (ap (λ a. a .answer) (takes held o (y .messages) (y .counter) (y .judged) (y .room)))
+  -- A reader that judges soundly and completely, of an input that holds messages where `Whole` says so
+  module _ (sound held : Bool) (o : Out Msg) (Whole : List Msg → Type 0) (reads : (ms : List Msg) → o ≡ list ms → Whole ms)
+      (complete : (ms : List Msg) → Whole ms → o ≡ list ms) (sounds : (ms : List Msg) → Whole ms → sound ≡ true) where
+    -- accepts exactly where the input holds messages, and there is room
+    pub exactly-accepted : (k : ℕ) (d : Counter)
+        → (answered tab state rows held o .answer ≡ R.Rows k d) ↔ Accepted (Ready sound held) Whole state (length rows) k d
+    exactly-accepted k d = (λ e. from (why-taken held o e), to)
+      where
+        from : Taken (length rows) state held o k d → Accepted (Ready sound held) Whole state (length rows) k d
+        from y =
+            let x : Whole (y .messages) = reads (y .messages) (y .whole) in
+            record {
+              fine = record { setting = sounds (y .messages) x; counter = y .fine };
+              messages = y .messages;
+              whole = x;
+              room = y .room;
+              count = y .count;
+              left = y .left;
+            }
+
+        to : Accepted (Ready sound held) Whole state (length rows) k d → answered tab state rows held o .answer ≡ R.Rows k d
+        to y =
+            let r = takes held o (y .messages) (y .fine .counter) (complete (y .messages) (y .whole)) (y .room) in
+            rw (y .count, y .left) (ap (λ a. a .answer) r)
+
+    -- with the rows at the front of the table, and those behind unchanged
+    pub rows-front : (ms : List Msg) → length (tab ms) ≡ 5 * length ms → Ready sound held → Whole ms → 5 * length ms ≤ length rows
+        → (take (5 * length ms) (answered tab state rows held o .lent) ≡ tab ms)
+        × (drop (5 * length ms) (answered tab state rows held o .lent) ≡ drop (5 * length ms) rows)
+    rows-front ms n f x l =
+        let r = takes held o ms (f .counter) (complete ms x) l in
+        (rw (r, ← n) (put-front rows (tab ms) (omega arith)), rw (r, ← n) (kept-behind rows (tab ms) (omega arith)))

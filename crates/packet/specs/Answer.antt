@@ -1,6 +1,6 @@
 -- Answers (document 01, 'What reading and writing return'), for every input: with the number and values of that paper for each case,
 -- and with the lent table or output as the call leaves it.
-use Prim.Native.Nat.{ℕ, _*_, _<_, min}
+use Prim.Native.Nat.{ℕ, _*_, _<_, _≤_, min}
 use mathlib.Core.Path.{_≡_}
 use mathlib.Core.Bool.{Bool, true, cond, not, _&&_}
 use mathlib.Core.List.{List}
@@ -74,6 +74,15 @@ fewNumbers rows ms = ltb (length rows) (5 * length ms)
 abbrev pub answered : (List Msg → List ℕ) → (List Msg → Counter) → List ℕ → (held : Bool) → Out Msg → Answer Reading
 answered table state rows held o =
     settled R.Refused (λ ms. R.Rows (length ms) (state ms)) (fewNumbers rows) table rows (cond held o (refused 1 0))
+
+-- What it is for a read to be accepted with k rows, and to leave the state d; `Whole ms` says that the input holds the messages ms
+pub record Accepted (Fine : Type 0) (Whole : List Msg → Type 0) (state : List Msg → Counter) (numbers k : ℕ) (d : Counter) : Type 0 where
+  pub fine : Fine
+  pub messages : List Msg
+  pub whole : Whole messages
+  pub room : 5 * length messages ≤ numbers
+  pub count : k ≡ length messages
+  pub left : d ≡ state messages
 
 -- A writer with this next counter: the output is too small, or would exceed the longest transfer
 abbrev pub fewBytes : List ℕ → List ℕ → Bool

@@ -15,9 +15,9 @@ use Rattle.packet.specs.Row.{table, behind}
 use Rattle.packet.specs.Answer.{readNumber, readState}
 use Rattle.packet.proofs.CounterLaws.{exceeds-known, not-valid}
 use Rattle.packet.proofs.RowLaws.{length-table}
-use Rattle.packet.proofs.ReaderLaws.{Unread, Taken, refused-anyway, read-keeps, rows-front, exactly-unread, exactly-taken}
+use Rattle.packet.proofs.ReaderLaws.{Unread, refused-anyway, read-keeps, exactly-unread, exactly-accepted, rows-front}
 use Rattle.usb.specs.declared.Setting.{Setting}
-use Rattle.usb.specs.Setting.{W}
+use Rattle.usb.specs.Setting.{W, sound}
 use Rattle.usb.specs.Layout.{Transfer}
 use Rattle.usb.specs.Reading.{judged, readOf}
 use Rattle.usb.specs.Refusal.{Broken, Fine, ReadRefusal, ReadAccept}
@@ -72,36 +72,15 @@ module _ (s : Setting) (t : List ℕ) (c : Counter) (rows : List ℕ) where
 
   pub accepted-exactly : (k : ℕ) (d : Counter) → (readOf s t c rows .answer ≡ R.Rows k d) ↔ ReadAccept s t c (length rows) k d
   unfolding readOf
-  accepted-exactly k d = exactly-taken (rowsOf s c) (behind (W s) c) rows (valid (W s) c) (judged s t) from to
-    where
-      from : Taken (length rows) (behind (W s) c) (valid (W s) c) (judged s t) k d → ReadAccept s t c (length rows) k d
-      from y =
-          let x : Transfer s (y .messages) t = read-sound s t (y .messages) (y .judged) in
-          record {
-            fine = record { setting = x .setting; counter = y .counter };
-            messages = y .messages;
-            transfer = x;
-            room = y .room;
-            count = y .count;
-            state = y .left;
-          }
-
-      to : ReadAccept s t c (length rows) k d → Taken (length rows) (behind (W s) c) (valid (W s) c) (judged s t) k d
-      to y =
-          record {
-            messages = y .messages;
-            counter = y .fine .counter;
-            judged = read-complete s t (y .messages) (y .transfer);
-            room = y .room;
-            count = y .count;
-            left = y .state;
-          }
+  accepted-exactly =
+      exactly-accepted (rowsOf s c) (behind (W s) c) rows (sound s) (valid (W s) c) (judged s t) (λ ms. Transfer s ms t)
+      (read-sound s t) (read-complete s t) (λ ms x. x .setting)
 
   -- the rows of what is accepted stand at the front of the table, and those behind are unchanged
   pub accepted-rows : (ms : List Msg) → Fine s c → Transfer s ms t → 5 * length ms ≤ length rows
       → (take (5 * length ms) (readOf s t c rows .lent) ≡ table (s .direction) (W s) c ms)
       × (drop (5 * length ms) (readOf s t c rows .lent) ≡ drop (5 * length ms) rows)
   unfolding readOf
-  accepted-rows ms f x l =
-      rows-front (rowsOf s c) (behind (W s) c) rows (valid (W s) c) (judged s t) ms (f .counter) (read-complete s t ms x)
-      (length-table (s .direction) (W s) c ms) l
+  accepted-rows ms =
+      rows-front (rowsOf s c) (behind (W s) c) rows (sound s) (valid (W s) c) (judged s t) (λ ms. Transfer s ms t)
+      (read-sound s t) (read-complete s t) (λ ms x. x .setting) ms (length-table (s .direction) (W s) c ms)
