@@ -49,7 +49,7 @@ pub data Miscount (s : Setting) (ns bs : List ℕ) : Type 0 where
   none : ns ≡ [] → Miscount s ns bs
   several : L s ≡ 0 → (length ns ≡ 1 → ⊥) → Miscount s ns bs
 
--- as many, and those
+-- as many lengths as a frame takes, and those of the bytes
 pub record Rightly (s : Setting) (ns bs : List ℕ) : Type 0 where
   pub matched : Matched ns bs
   pub counted : Counted s ns

@@ -194,3 +194,49 @@ module _ (s : Setting) (ok : sound s ≡ true) (fill c : ℕ) (v : holds (W s) c
       at : (x : Bool) → eqb (L s) 0 ≡ x → Written (b ∷ bs)
       at true g = let l : L s ≡ 0 = eqb-true (L s) 0 g in without-len b bs l (omega (arith, o l)) f
       at false g = with-len b bs (omega (arith, eqb-false (L s) 0 g)) f
+
+---- The least length -----------------------------------------------------------------------------------------------------------
+
+-- where the last of these packets ends
+abbrev endBy : ℕ → List Msg → ℕ
+endBy e [] = e
+endBy e (m ∷ ms) = endBy (m .at + length (m .packet)) ms
+
+further-end : {a e q : ℕ} {cs bs : List ℕ} {ms : List Msg} → Further a e cs q ms bs → e ≡ endBy q ms
+further-end here = refl
+further-end (next f b l z k) = further-end k
+
+laid-end : {s : Setting} {e : ℕ} {cs t : List ℕ} {ms : List Msg} → Laid s e cs ms t → (e ≡ endBy 0 ms) × (length t ≡ e + length cs)
+laid-end (laid h b r k) = (further-end k, simp length-append (omega (arith, further-length k, r .header)))
+
+behind-end : (a e : ℕ) (bs : List (List ℕ)) → endBy e (placedBehind a e bs) ≡ endOf a e bs
+unfolding placedBehind
+behind-end a e [] = refl
+behind-end a e (b ∷ bs) = behind-end a (start a e + length b) bs
+
+-- no frame of these packets is shorter than the one that is written
+pub frame-least : (s : Setting) (fill c : ℕ) (b : List ℕ) (bs : List (List ℕ)) (t : List ℕ) → Fits s (length b ∷ map length bs)
+    → (L s ≡ 0 → bs ≡ []) → Frame s (placed s fill c (b ∷ bs)) t → length (frame s fill c (b ∷ bs)) ≤ length t
+unfolding placed placedBehind
+frame-least s fill c b bs t fits alone f = at (eqb (L s) 0) refl
+  where
+    e : ℕ
+    e = endOf (s .align) (H s + length b) bs
+
+    w : List ℕ
+    w = evening s fill (H s + length b)
+
+    at : (x : Bool) → eqb (L s) 0 ≡ x → length (frame s fill c (b ∷ bs)) ≤ length t
+    at true g =
+        let (i, j) = laid-end (f .laid) in
+        let n : length (b ++ w) ≡ length b + (H s + length b) % 2 = rw (length-append, evening-length s fill (H s + length b)) in
+        let p : shown s fill b ≡ b ++ w = rw g in
+        let q : bs ≡ [] = alone (eqb-true (L s) 0 g) in
+        let k : f .end ≡ H s + length (b ++ w) = rw (p, q) at i in
+        let m : e ≡ H s + length b = rw q in
+        omega (arith, frame-length s fill c b bs fits)
+    at false g =
+        let (i, j) = laid-end (f .laid) in
+        let p : shown s fill b ≡ b = rw g (append-nil b) in
+        let k : f .end ≡ e = (rw p at i) ∙ behind-end (s .align) (H s + length b) bs in
+        omega (arith, frame-length s fill c b bs fits, f .sized .evened .even)

@@ -12,12 +12,13 @@ use Rattle.layout.specs.Field.{says, Name.LEN}
 use Rattle.layout.specs.Walk.{Ends, Out.refused, Step.fault, Leads.here, Ends.stops}
 use Rattle.packet.specs.declared.Counter.{Counter}
 use Rattle.packet.specs.declared.Reading.the-variants as R
-use Rattle.packet.specs.Counter.{valid}
+use Rattle.packet.specs.Counter.{valid, gap, advance}
+use Rattle.packet.specs.Row.{row}
 use Rattle.packet.specs.Message.{Msg}
 use Rattle.packet.specs.Answer.{readNumber, readState}
-use Rattle.packet.proofs.CounterLaws.{exceeds-known, not-valid}
-use Rattle.packet.proofs.RowLaws.{length-table}
-use Rattle.packet.proofs.ReaderLaws.{Unread, refused-anyway, read-keeps, exactly-unread, exactly-accepted, rows-front}
+use Rattle.packet.proofs.CounterLaws.{exceeds-known, valid-without, not-valid}
+use Rattle.packet.proofs.RowLaws.{length-table, state-unread}
+use Rattle.packet.proofs.ReaderLaws.{Unread, refused-anyway, read-keeps, exactly-unread, exactly-accepted, rows-front, same-rows, same-state}
 use Rattle.flexray.specs.declared.Setting.{Setting}
 use Rattle.flexray.specs.Setting.{fields, H, L, W, sound}
 use Rattle.flexray.specs.Layout.{Sized, Frame}
@@ -82,7 +83,7 @@ module _ (s : Setting) (t : List ℕ) (z : Sized s t) where
 abbrev rowsOf : Setting → Counter → List Msg → List ℕ
 rowsOf s c = frameTable (s .direction) (W s) c
 
--- a refusal has one of the paper's numbers
+-- a refusal has one of document 01's numbers
 rule-number : {s : Setting} {t : List ℕ} {n p : ℕ} → Broken s t n p → (0 < n) × (n ≤ 8)
 rule-number (zeroed l e) = omega arith
 rule-number (past n l e h b) = omega arith
@@ -154,3 +155,28 @@ module _ (s : Setting) (t : List ℕ) (c : Counter) (rows : List ℕ) where
   accepted-rows ms =
       rows-front (rowsOf s c) (frameState (W s) c) rows (sound s) (valid (W s) c) (judged s t) (λ ms. Frame s ms t)
       (read-sound s t) (read-complete s t) (λ ms x. x .setting) ms (length-frame-table ms)
+
+---- Without CTR ----------------------------------------------------------------------------------------------------------------
+
+frame-unread : (d : ℕ) (b c : Counter) (ms : List Msg) → frameTable d 0 b ms ≡ frameTable d 0 c ms
+unfolding frameTable row gap
+frame-unread d b c [] = refl
+frame-unread d b c (m ∷ ms) = rw (state-unread d b c ms)
+
+frame-unaltered : (c : Counter) (ms : List Msg) → frameState 0 c ms ≡ c
+unfolding frameState advance
+frame-unaltered c [] = refl
+frame-unaltered c (m ∷ ms) = refl
+
+-- the state is neither read nor altered
+module _ (s : Setting) (t : List ℕ) (none : W s ≡ 0) (rows : List ℕ) where
+  pub counter-unread : (b c : Counter) → readOf s t b rows .lent ≡ readOf s t c rows .lent
+  unfolding readOf
+  counter-unread b c =
+      rw (none, valid-without b, valid-without c)
+      (same-rows (frameTable (s .direction) 0 b) (frameState 0 b) rows true (judged s t)
+      (frameTable (s .direction) 0 c) (frameState 0 c) (frame-unread (s .direction) b c))
+
+  pub counter-unaltered : (c : Counter) → readState c (readOf s t c rows .answer) ≡ c
+  unfolding readOf
+  counter-unaltered c = rw none (same-state (frameTable (s .direction) 0 c) (frameState 0 c) rows (valid 0 c) (judged s t) c (frame-unaltered c))

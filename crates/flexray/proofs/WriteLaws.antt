@@ -68,6 +68,16 @@ placed-length s fill c (b ∷ bs) = ap suc (behind-length (s .align) _ bs)
 
 ---- What was written -----------------------------------------------------------------------------------------------------------
 
+-- a refusal has one of document 01's numbers
+pub write-number : {s : Setting} {bs ns : List ℕ} {c fill : ℕ} {k n p : ℕ} → WriteRefusal s bs ns c fill k n p → (0 < n) × (n ≤ 8)
+write-number (WriteRefusal.setting e) = omega arith
+write-number (WriteRefusal.counter x) = omega arith
+write-number (WriteRefusal.mismatch r m) = omega arith
+write-number (WriteRefusal.empty r e) = omega arith
+write-number (WriteRefusal.several r l h) = omega arith
+write-number (WriteRefusal.unfit r m k l f u) = omega arith
+write-number (WriteRefusal.room r m k f h) = omega arith
+
 module _ (s : Setting) (bs ns : List ℕ) (c fill : ℕ) (out : List ℕ) where
   abbrev bytes : List ℕ
   bytes = frame s fill c (packets ns bs)

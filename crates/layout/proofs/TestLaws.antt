@@ -20,7 +20,7 @@ pub or-right : (a b : Bool) → a || b ≡ false → b ≡ false
 or-right true b e = cc
 or-right false b e = e
 
--- a test that passes where P holds and fails where N does, of which no two hold
+-- a test that passes, and P holds, or fails, and N holds
 pub data Tells (P N : Type 0) : Bool → Type 0 where
   passes : P → Tells P N true
   fails : N → Tells P N false

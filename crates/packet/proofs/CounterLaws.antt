@@ -3,7 +3,7 @@ use Prim.Native.Nat.{ℕ, zero, suc, _+_, _-_, _%_, _^_, _<_, _≤_}
 use native.Mathlib.Omega.{arith}
 use native.Mathlib.Nat.{add-zero, zero-add, mod-lt, add-mod-right, mod-add-mod, mod-eq-of-lt}
 use mathlib.Core.Path.{_≡_, refl, sym, _∙_}
-use mathlib.Core.Bool.{Bool, true, false, cond, _||_}
+use mathlib.Core.Bool.{Bool, true, false, cond, _||_, or-true}
 use mathlib.Core.List.{List}
 use lib.Dec.{eqb, ltb}
 use borrow.Author.Tests.{ltb-true, ltb-false, lt-ltb, eqb-true, eqb-false, ne-eqb}
@@ -70,6 +70,11 @@ unfolding valid
 exceeds-known w s e =
     let k : eqb (s .known) 0 ≡ false = or-left (eqb (s .known) 0) (holds w (s .expected)) e in
     (omega (arith, eqb-false (s .known) 0 k), exceeds w (s .expected) (or-right (eqb (s .known) 0) (holds w (s .expected)) e))
+
+-- without CTR every state is valid
+pub valid-without : (s : Counter) → valid 0 s ≡ true
+unfolding valid
+valid-without s = or-true (eqb (s .known) 0)
 
 pub not-valid : (w : ℕ) (s : Counter) → 0 < s .known → Exceeds w (s .expected) → valid w s ≡ false
 unfolding valid

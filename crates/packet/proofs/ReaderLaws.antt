@@ -13,11 +13,16 @@ use Rattle.packet.specs.declared.Counter.{Counter}
 use Rattle.packet.specs.declared.Reading.{Reading}
 use Rattle.packet.specs.declared.Reading.the-variants as R
 use Rattle.packet.specs.Message.{Msg}
-use Rattle.packet.specs.Answer.{Ready, readNumber, readState, fewNumbers, answered, Accepted}
+use Rattle.packet.specs.Answer.{Ready, readNumber, readValue, readState, Answer, settled, fewNumbers, answered, Accepted}
 use Rattle.packet.proofs.AnswerLaws.{Unsettled, Settled, Apart, refuses, accepts, why-refused, why-accepted, keeps, put-front, kept-behind}
 
 apart-read : {state : List Msg → Counter} → Apart R.Refused (λ ms. R.Rows (length ms) (state ms))
 apart-read = record { number = λ e. cc; place = λ e. cc; never = λ e. let z : _≡_ {A = ℕ} 0 1 = cc in omega arith }
+
+-- the number and value of an answer tell a refusal
+pub read-told : (a : Reading) {n p : ℕ} → 0 < n → readNumber a ≡ n → readValue a ≡ p → a ≡ R.Refused n p
+read-told (R.Rows k d) h e f = absurd (omega arith)
+read-told (R.Refused m q) h e f = rw (e, f)
 
 -- why a reader refuses with n at p
 pub data Unread (numbers : ℕ) (held : Bool) (o : Out Msg) : ℕ → ℕ → Type 0 where
@@ -37,6 +42,9 @@ Taken numbers state held o k d = Accepted (held ≡ true) (λ ms. o ≡ list ms)
 module _ (tab : List Msg → List ℕ) (state : List Msg → Counter) (rows : List ℕ) where
   abbrev rowsTold : List Msg → Reading
   rowsTold ms = R.Rows (length ms) (state ms)
+
+  abbrev given : List Msg → Answer Reading
+  given ms = record { answer = rowsTold ms; lent = sets rows 0 (tab ms) }
 
   unread : (held : Bool) (o : Out Msg) {n p : ℕ} → Unread (length rows) held o n p
       → answered tab state rows held o ≡ record { answer = R.Refused n p; lent = rows }
@@ -95,7 +103,7 @@ module _ (tab : List Msg → List ℕ) (state : List Msg → Counter) (rows : Li
       at (R.Rows k d) e h = absurd (omega arith)
       at (R.Refused n p) e h = (keeps R.Refused rowsTold (fewNumbers rows) tab rows apart-read (cond held o (refused 1 0)) e, refl)
 
-  -- So a relation that says when a reader refuses is exact where it is such a reason, and each such reason is one of it
+  -- So a relation is exact if every such reason gives it, and it gives such a reason
   pub exactly-unread : (held : Bool) (o : Out Msg) {n p : ℕ} {Refusal : Type 0} → (Unread (length rows) held o n p → Refusal)
       → (Refusal → Unread (length rows) held o n p) → (answered tab state rows held o .answer ≡ R.Refused n p) ↔ Refusal
   exactly-unread held o from to = (λ e. from (why-unread held o e), λ r. ap (λ a. a .answer) (unread held o (to r)))
@@ -132,3 +140,37 @@ module _ (tab : List Msg → List ℕ) (state : List Msg → Counter) (rows : Li
     rows-front ms n f x l =
         let r = takes held o ms (f .counter) (complete ms x) l in
         (rw (r, ← n) (put-front rows (tab ms) (omega arith)), rw (r, ← n) (kept-behind rows (tab ms) (omega arith)))
+
+---- Without a counter ----------------------------------------------------------------------------------------------------------
+
+module _ (tab : List Msg → List ℕ) (state : List Msg → Counter) (rows : List ℕ) (held : Bool) (o : Out Msg) where
+  -- readers whose rows agree leave the same table
+  pub same-rows : (tab′ : List Msg → List ℕ) (state′ : List Msg → Counter) → ((ms : List Msg) → tab ms ≡ tab′ ms)
+      → answered tab state rows held o .lent ≡ answered tab′ state′ rows held o .lent
+  unfolding settled
+  same-rows tab′ state′ h = at (cond held o (refused 1 0))
+    where
+      fill : (b : Bool) (ms : List Msg) → cond b (record { answer = R.Refused 4 0; lent = rows }) (given tab state rows ms) .lent
+          ≡ cond b (record { answer = R.Refused 4 0; lent = rows }) (given tab′ state′ rows ms) .lent
+      fill true ms = refl
+      fill false ms = ap (sets rows 0) (h ms)
+
+      at : (r : Out Msg) → settled R.Refused (rowsTold tab state rows) (fewNumbers rows) tab rows r .lent
+          ≡ settled R.Refused (rowsTold tab′ state′ rows) (fewNumbers rows) tab′ rows r .lent
+      at (refused n p) = refl
+      at (list ms) = fill (fewNumbers rows ms) ms
+
+  -- a reader whose messages leave the state c leaves it
+  pub same-state : (c : Counter) → ((ms : List Msg) → state ms ≡ c)
+      → readState c (answered tab state rows held o .answer) ≡ c
+  unfolding settled
+  same-state c h = at (cond held o (refused 1 0))
+    where
+      fill : (b : Bool) (ms : List Msg)
+          → readState c (cond b (record { answer = R.Refused 4 0; lent = rows }) (given tab state rows ms) .answer) ≡ c
+      fill true ms = refl
+      fill false ms = h ms
+
+      at : (r : Out Msg) → readState c (settled R.Refused (rowsTold tab state rows) (fewNumbers rows) tab rows r .answer) ≡ c
+      at (refused n p) = refl
+      at (list ms) = fill (fewNumbers rows ms) ms

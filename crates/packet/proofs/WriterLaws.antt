@@ -13,7 +13,7 @@ use Rattle.layout.specs.Walk.{Out, Out.list, Out.refused}
 use Rattle.layout.proofs.TestLaws.{Tells, Tells.passes, Tells.fails, why-passed, why-failed, passed, failed}
 use Rattle.packet.specs.declared.Writing.{Writing}
 use Rattle.packet.specs.declared.Writing.the-variants as W
-use Rattle.packet.specs.Answer.{Ready, writeNumber, writeCounter, fewBytes, stored, weighed, NoRoom, NoRoom.small, NoRoom.long}
+use Rattle.packet.specs.Answer.{Ready, writeNumber, writeValue, writeCounter, fewBytes, stored, weighed, NoRoom, NoRoom.small, NoRoom.long}
 use Rattle.packet.specs.Limit.{mostBytes}
 use Rattle.packet.proofs.AnswerLaws.{Unsettled, Settled, Apart, refuses, accepts, why-refused, why-accepted, keeps, put-front, kept-behind}
 
@@ -67,6 +67,11 @@ why-weighed true true false i n bs = at (ltb i n) refl
     at : (b : Bool) → ltb i n ≡ b → Weighed true true false i n bs (cond b (refused 3 i) (list bs))
     at true g = Weighed.misfit (record { setting = refl; counter = refl }) refl (ltb-true i n g)
     at false g = Weighed.fit (record { setting = refl; counter = refl }) refl (ltb-false i n g)
+
+-- the number and value of an answer tell a refusal
+pub write-told : (a : Writing) {n p : ℕ} → 0 < n → writeNumber a ≡ n → writeValue a ≡ p → a ≡ W.Refused n p
+write-told (W.Bytes k d) h e f = absurd (omega arith)
+write-told (W.Refused m q) h e f = rw (e, f)
 
 -- why a writer refuses with a number at a place: of n lengths the one at i is the first that does not fit
 pub data Unwritten (sound held mismatch : Bool) (i n : ℕ) (bs : List ℕ) (room : ℕ) : ℕ → ℕ → Type 0 where
@@ -169,7 +174,7 @@ module _ (sound held mismatch : Bool) (i n : ℕ) (bs out : List ℕ) (next : �
       at (W.Bytes k d) e h = absurd (omega arith)
       at (W.Refused n p) e h = (keeps W.Refused bytesTold (fewBytes out) (λ xs. xs) out apart-write composed e, refl)
 
-  -- So a relation that says when a writer refuses is exact where it is such a reason, and each such reason is one of it
+  -- So a relation is exact if every such reason gives it, and it gives such a reason
   pub exactly-unwritten : {a b : ℕ} {Refusal : Type 0} → (Unwritten sound held mismatch i n bs (length out) a b → Refusal)
       → (Refusal → Unwritten sound held mismatch i n bs (length out) a b) → (stored next out composed .answer ≡ W.Refused a b) ↔ Refusal
   exactly-unwritten from to = (λ e. from (why-unwritten e), λ r. ap (λ x. x .answer) (unwritten (to r)))

@@ -1,4 +1,4 @@
--- Answers (document 01, 'What reading and writing return'), for every input: with the number and values of that paper for each case,
+-- Answers (document 01, 'What reading and writing return'), for every input: with that document's number and values for each case,
 -- and with the lent table or output as the call leaves it.
 use Prim.Native.Nat.{ℕ, _*_, _<_, _≤_, min}
 use mathlib.Core.Path.{_≡_}
@@ -66,11 +66,11 @@ module _ {R E : Type 0} where
   settled refuse accept few told lent (list xs) =
       cond (few xs) (record { answer = refuse 4 0; lent = lent }) (record { answer = accept xs; lent = sets lent 0 (told xs) })
 
--- A reader with these rows and this state for its messages. A counter that is not held is refused with 1 before what was judged counts; fewer than
--- five numbers for each row are too few
+-- fewer than five numbers for each row are too few
 abbrev pub fewNumbers : List ℕ → List Msg → Bool
 fewNumbers rows ms = ltb (length rows) (5 * length ms)
 
+-- a reader with these rows and this state for its messages. A state that is not valid is refused with 1, whatever was judged
 abbrev pub answered : (List Msg → List ℕ) → (List Msg → Counter) → List ℕ → (held : Bool) → Out Msg → Answer Reading
 answered table state rows held o =
     settled R.Refused (λ ms. R.Rows (length ms) (state ms)) (fewNumbers rows) table rows (cond held o (refused 1 0))
@@ -84,10 +84,11 @@ pub record Accepted (Fine : Type 0) (Whole : List Msg → Type 0) (state : List 
   pub count : k ≡ length messages
   pub left : d ≡ state messages
 
--- A writer with this next counter: the output is too small, or would exceed the longest transfer
+-- the output is too small, or would exceed the longest transfer
 abbrev pub fewBytes : List ℕ → List ℕ → Bool
 fewBytes out bs = ltb (min (length out) mostBytes) (length bs)
 
+-- a writer with this next counter
 abbrev pub stored : ℕ → List ℕ → Out ℕ → Answer Writing
 stored next out = settled W.Refused (λ bs. W.Bytes (length bs) next) (fewBytes out) (λ bs. bs) out
 

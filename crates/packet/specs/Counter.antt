@@ -16,7 +16,7 @@ pub record Exceeds (w n : ℕ) : Type 0 where
   pub carried : 0 < w
   pub over : 256 ^ w ≤ n
 
--- a state whose expected counter, if it is known, does not
+-- a state whose expected counter, if it is known, does not exceed it
 unfoldable pub valid : ℕ → Counter → Bool
 valid w s = eqb (s .known) 0 || holds w (s .expected)
 

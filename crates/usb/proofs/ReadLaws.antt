@@ -1,4 +1,4 @@
--- Demand 3 for USB: the reader accepts exactly if some list of messages makes up the transfer, at most one list does, and the reader gives it.
+-- The reader accepts exactly if some list of messages makes up the transfer, at most one list does, and the reader gives it.
 use Prim.Native.Nat.{ℕ, _-_, _<_, _≤_}
 use native.Mathlib.Omega.{arith}
 use mathlib.Core.Path.{_≡_, refl, sym, ap, _∙_}
@@ -47,7 +47,7 @@ module _ (s : Setting) (g : Good s) (t : List ℕ) where
   ahead-is (whole l) = walked (step s t) (length t) (forward s g t) (ends (leads s g t l refl) (at-end s g t))
   ahead-is (broken l b) = walked (step s t) (length t) (forward s g t) (stops (leads s g t l refl) (at-broken s g t b))
 
----- Demand 3 -------------------------------------------------------------------------------------------------------------------
+---- Sound, complete, unique -------------------------------------------------------------------------------------------------------------------
 
 -- what comes before the walk
 pub data Judgement (s : Setting) (t : List ℕ) : Out Msg → Type 0 where

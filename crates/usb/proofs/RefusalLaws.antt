@@ -13,9 +13,9 @@ use Rattle.packet.specs.Message.{Msg}
 use Rattle.packet.specs.Counter.{valid}
 use Rattle.packet.specs.Row.{table, behind}
 use Rattle.packet.specs.Answer.{readNumber, readState}
-use Rattle.packet.proofs.CounterLaws.{exceeds-known, not-valid}
-use Rattle.packet.proofs.RowLaws.{length-table}
-use Rattle.packet.proofs.ReaderLaws.{Unread, refused-anyway, read-keeps, exactly-unread, exactly-accepted, rows-front}
+use Rattle.packet.proofs.CounterLaws.{exceeds-known, valid-without, not-valid}
+use Rattle.packet.proofs.RowLaws.{length-table, state-unread, state-unaltered}
+use Rattle.packet.proofs.ReaderLaws.{Unread, refused-anyway, read-keeps, exactly-unread, exactly-accepted, rows-front, same-rows, same-state}
 use Rattle.usb.specs.declared.Setting.{Setting}
 use Rattle.usb.specs.Setting.{W, sound}
 use Rattle.usb.specs.Layout.{Transfer}
@@ -26,7 +26,7 @@ use Rattle.usb.proofs.ReadLaws.{Outcome, Judgement, judgement, judged-i
 abbrev rowsOf : Setting → Counter → List Msg → List ℕ
 rowsOf s c = table (s .direction) (W s) c
 
--- a refusal has one of the paper's numbers
+-- a refusal has one of document 01's numbers
 rule-number : {s : Setting} {q n : ℕ} {bs : List ℕ} → Broken s q bs n → (0 < n) × (n ≤ 8)
 rule-number (Broken.over n h x) = omega arith
 rule-number (Broken.past n h x f) = omega arith
@@ -84,3 +84,17 @@ module _ (s : Setting) (t : List ℕ) (c : Counter) (rows : List ℕ) where
   accepted-rows ms =
       rows-front (rowsOf s c) (behind (W s) c) rows (sound s) (valid (W s) c) (judged s t) (λ ms. Transfer s ms t)
       (read-sound s t) (read-complete s t) (λ ms x. x .setting) ms (length-table (s .direction) (W s) c ms)
+
+---- Without CTR ----------------------------------------------------------------------------------------------------------------
+
+-- the state is neither read nor altered
+module _ (s : Setting) (t : List ℕ) (none : W s ≡ 0) (rows : List ℕ) where
+  pub counter-unread : (b c : Counter) → readOf s t b rows .lent ≡ readOf s t c rows .lent
+  unfolding readOf
+  counter-unread b c =
+      rw (none, valid-without b, valid-without c)
+      (same-rows (table (s .direction) 0 b) (behind 0 b) rows true (judged s t) (table (s .direction) 0 c) (behind 0 c) (state-unread (s .direction) b c))
+
+  pub counter-unaltered : (c : Counter) → readState c (readOf s t c rows .answer) ≡ c
+  unfolding readOf
+  counter-unaltered c = rw none (same-state (table (s .direction) 0 c) (behind 0 c) rows (valid 0 c) (judged s t) c (state-unaltered c))

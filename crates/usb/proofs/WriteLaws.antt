@@ -1,4 +1,4 @@
--- Demand 2 for the USB writer: what it writes is laid out as the packets that were given and reads back as the same list; and each refusal,
+-- What the writer writes is laid out as the packets that were given and reads back as the same list; and each refusal,
 -- with its number and place, is given exactly when document 01's table says so.
 use Prim.Native.Nat.{ℕ, _*_, _<_, _≤_}
 use native.Mathlib.Omega.{arith}
@@ -56,6 +56,15 @@ module _ (s : Setting) (n : ℕ) where
   not-both-fit (Unfit.wide p l) f = omega (arith, f .within p)
 
 ---- What was written -----------------------------------------------------------------------------------------------------------
+
+-- a refusal has one of document 01's numbers
+pub write-number : {s : Setting} {bs ns : List ℕ} {c fill : ℕ} {full : Bool} {k n p : ℕ}
+    → WriteRefusal s bs ns c fill full k n p → (0 < n) × (n ≤ 8)
+write-number (WriteRefusal.setting e) = omega arith
+write-number (WriteRefusal.counter x) = omega arith
+write-number (WriteRefusal.mismatch r m) = omega arith
+write-number (WriteRefusal.unfit r m l f u) = omega arith
+write-number (WriteRefusal.room r m f h) = omega arith
 
 module _ (s : Setting) (bs ns : List ℕ) (c fill : ℕ) (full : Bool) (out : List ℕ) where
   abbrev bytes : List ℕ
