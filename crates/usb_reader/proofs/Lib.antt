@@ -1,3 +1,4 @@
+pub mod CountLaws
 pub mod PlaceLaws
 pub mod PlanLaws
 pub mod StepLaws

@@ -5,7 +5,8 @@ ghost use Prim.Native.Nat.{min};
 ghost use mathlib.Core.Bool.{cond};
 ghost use Rattle.usb.specs.Reading.{choose as chooseOf};
 ghost use Rattle.usb.specs.Setting.{sound as soundOf};
-ghost use Rattle.usb_reader.specs.Plan.{setting, Ready, Standing, Onward, Moved, Roundable, Rounded, tested};
+ghost use Rattle.usb_reader.specs.Count.{JudgedAs};
+ghost use Rattle.usb_reader.specs.Plan.{setting, Ready, Given, Standing, Onward, Moved, Roundable, Rounded, tested};
 ghost use Rattle.usb_reader.specs.Step.{Packet, Whole, Header, Len, Measured, Fitting, FoundAt, Saw};
 use layout::both;
 use layout::field;
@@ -217,5 +218,37 @@ fn see(p: Plan, t: &[u8], a: At) -> Seen
         Verdict::TakeRest => Seen::Rest(on(p, a, m.rest)),
         Verdict::Refuse(n) => Seen::Refused(n, a.q),
         Verdict::Stop => Seen::Nothing,
+    }
+}
+
+// How many rows a transfer has, or its first refusal.
+pub enum Judged {
+    Rows(usize),
+    Refused(u32, usize),
+}
+
+// Judges a whole transfer, and writes nothing.
+fn judge(p: Plan, t: &[u8]) -> Judged
+    requires { ⌜ Given p (now t) ⌝ }
+    ensures { λ r. ⌜ JudgedAs p (now (t .entry)) r ⌝ }
+{
+    let mut a = At { q: 0, end: p.datapacket };
+    let mut rows: usize = 0;
+    loop {
+        match see(p, t, a) {
+            Seen::Message(_, next) => {
+                rows += 1;
+                a = next;
+            }
+            Seen::Rest(next) => {
+                a = next;
+            }
+            Seen::Refused(n, q) => {
+                return Judged::Refused(n, q);
+            }
+            Seen::Nothing => {
+                return Judged::Rows(rows);
+            }
+        }
     }
 }
