@@ -1,4 +1,6 @@
 pub mod CountLaws
+pub mod CounterLaws
 pub mod PlaceLaws
 pub mod PlanLaws
+pub mod RowLaws
 pub mod StepLaws
