@@ -4,20 +4,23 @@ ghost use mathlib.Core.Bool.{true, cond};
 ghost use Prim.Native.Nat.{_+_, _≤_, min};
 ghost use lib.ListN.{length};
 ghost use lib.Seq.{sets};
-ghost use Rattle.packet.specs.Counter.{difference, gap as gapOf};
+ghost use Rattle.packet.specs.Counter.{difference, gap as gapOf, holds as holdsOf, valid as validOf};
 ghost use Rattle.packet.specs.Row.{row, numbers};
 ghost use Rattle.packet.specs.Seen.{message};
-ghost use Rattle.usb.specs.Reading.{choose as chooseOf, ahead};
+ghost use Rattle.usb.specs.Reading.{choose as chooseOf, ahead, readOf};
 ghost use Rattle.usb.specs.Setting.{sound as soundOf};
 ghost use Rattle.usb_reader.specs.Count.{JudgedAs};
 ghost use Rattle.usb_reader.specs.Plan.{setting, Ready, Given, Standing, Onward, Moved, Roundable, Rounded, tested};
+ghost use Rattle.usb_reader.specs.Reads.{Answers, Giveable, Readable, Reads};
 ghost use Rattle.usb_reader.specs.Rows.{Apart, Said, After, Counted, Advanced, Rowable, Putting, Put, Fillable, Filled.filled, filling};
 ghost use Rattle.usb_reader.specs.Step.{Packet, Whole, Header, Len, Measured, Fitting, FoundAt, Saw};
 use layout::both;
+use layout::either;
 use layout::field;
 use packet::At;
 use packet::Counter;
 use packet::Found;
+use packet::Reading;
 use packet::Row;
 use packet::Seen;
 use packet::gap16;
@@ -27,6 +30,7 @@ use packet::part;
 use usb::Setting;
 use usb::Verdict;
 use usb::shape;
+use usb::sound;
 
 // A setting's numbers, with those of its header, so that the table of headers is read once.
 pub struct Plan {
@@ -376,4 +380,72 @@ fn fill(p: Plan, t: &[u8], first: Counter, rows: &mut [u32]) -> Counter
             }
         }
     }
+}
+
+// Whether a counter of so many bytes can be n; any number where there is none.
+fn holds(width: usize, n: u32) -> bool
+    requires { ⌜ width ≤ 2 ⌝ }
+    ensures { λ r. ⌜ r ≡ holdsOf width n ⌝ }
+{
+    match width {
+        0 => true,
+        1 => n < 256,
+        _ => n < 65536,
+    }
+}
+
+// Whether a counter can be what the state expects, if it expects one.
+fn valid(width: usize, c: Counter) -> bool
+    requires { ⌜ width ≤ 2 ⌝ }
+    ensures { λ r. ⌜ r ≡ validOf width c ⌝ }
+{
+    either(c.known == 0, holds(width, c.expected))
+}
+
+// A transfer that was judged to have k rows: they are given if the table has room.
+fn give(p: Plan, t: &[u8], c: Counter, rows: &mut [u32], k: usize) -> Reading
+    requires { ⌜ Giveable p (now t) c k ⌝ }
+    ensures { λ r. ⌜ Answers p (now (t .entry)) c (now (rows .entry)) r (now (rows .exit)) ⌝ }
+{
+    if rows.len() < 5 * k {
+        return Reading::Refused(4, 0);
+    }
+    let state = fill(p, t, c, rows);
+    Reading::Rows(k as u32, state)
+}
+
+// A transfer that is not too long is judged before a row is given.
+fn read_short(p: Plan, t: &[u8], c: Counter, rows: &mut [u32]) -> Reading
+    requires { ⌜ Readable p (now t) c ⌝ }
+    ensures { λ r. ⌜ Answers p (now (t .entry)) c (now (rows .entry)) r (now (rows .exit)) ⌝ }
+{
+    match judge(p, t) {
+        Judged::Rows(k) => give(p, t, c, rows, k),
+        Judged::Refused(n, q) => Reading::Refused(n, q as u32),
+    }
+}
+
+// With a setting that is sound: the state, then the length.
+fn read_sound(p: Plan, t: &[u8], c: Counter, rows: &mut [u32]) -> Reading
+    requires { ⌜ Ready p ⌝ }
+    ensures { λ r. ⌜ Reads (setting p) (now (t .entry)) c (now (rows .entry)) r (now (rows .exit)) ⌝ }
+{
+    if valid(p.ctrwidth, c) {
+        if t.len() <= 262144 {
+            return read_short(p, t, c, rows);
+        }
+        return Reading::Refused(2, 0);
+    }
+    Reading::Refused(1, 0)
+}
+
+// Reads a transfer: its rows at the front of the table and the state behind them, or the refusal, which changes nothing.
+pub fn read(s: Setting, t: &[u8], c: Counter, rows: &mut [u32]) -> Reading
+    ensures { λ r. ⌜ (r ≡ readOf s (now (t .entry)) c (now (rows .entry)) .answer)
+        × (now (rows .exit) ≡ readOf s (now (t .entry)) c (now (rows .entry)) .lent) ⌝ }
+{
+    if sound(s) {
+        return read_sound(planned(s), t, c, rows);
+    }
+    Reading::Refused(1, 0)
 }
