@@ -19,7 +19,8 @@ same-end m q next h l u =
     let e : next / m * m ≡ q / m * m = ap (λ k. k * m) (div-eq-of-lt-le m low up) in
     omega (arith, div-add-mod' q m, div-add-mod' next m, mod-lt q h, mod-lt next h)
 
-placed : (p : Plan) → Ready p → (q : ℕ) {end : ℕ} → end ≡ q + (p .datapacket - q % p .datapacket) → Place p (record { q = q; end = end })
+placed : (p : Plan) → Ready p → (q : ℕ) {end : ℕ} → end ≡ q + (p .datapacket - q % p .datapacket)
+    → Place p (record { q = q; end = end })
 placed p k q e =
     let l : q % p .datapacket < p .datapacket = mod-lt q (omega (arith, k .cut-least)) in
     search needs

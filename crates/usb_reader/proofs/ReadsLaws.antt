@@ -56,8 +56,8 @@ module _ (p : Plan) (rows : List ℕ) (c : Counter) where
   few k (refused n q) e l = let z : _≡_ {A = ℕ} 0 1 = cc in absurd (omega arith)
 
   -- they have, and are written
-  enough : (k : ℕ) (o : Out Msg) → Rows k ≡ counted 0 o → 5 * k ≤ length rows → (new : List ℕ) (d : Counter) → filled new d ≡ filling p rows 0 c o
-      → answerOf o ≡ record { answer = R.Rows k d; lent = new }
+  enough : (k : ℕ) (o : Out Msg) → Rows k ≡ counted 0 o → 5 * k ≤ length rows → (new : List ℕ) (d : Counter)
+      → filled new d ≡ filling p rows 0 c o → answerOf o ≡ record { answer = R.Rows k d; lent = new }
   unfolding settled
   enough k (list ms) e l new d f =
       let i : k ≡ 0 + length ms = cc in
@@ -120,7 +120,8 @@ pub unsound : {s : Setting} {t : List ℕ} {c : Counter} {rows : List ℕ} → s
 unfolding readOf judged settled
 unsound {s} {t} {c} {rows} e = reads (rw e (at (valid (W s) c)))
   where
-    at : (b : Bool) → answered (table (s .direction) (W s) c) (behind (W s) c) rows b (refused 1 0) ≡ record { answer = R.Refused 1 0; lent = rows }
+    at : (b : Bool) → answered (table (s .direction) (W s) c) (behind (W s) c) rows b (refused 1 0)
+        ≡ record { answer = R.Refused 1 0; lent = rows }
     at true = refl
     at false = refl
 

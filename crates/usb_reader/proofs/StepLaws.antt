@@ -1,5 +1,5 @@
 -- What each verdict at a place comes to.
-use Prim.Native.Nat.{ℕ, zero, suc, _+_, _-_, _%_, _<_, _≤_}
+use Prim.Native.Nat.{ℕ, zero, suc, _+_, _-_, _%_, _<_, _≤_, min}
 use native.Mathlib.Omega.{arith}
 use native.Mathlib.Nat.{mod-lt}
 use mathlib.Core.Path.{_≡_, refl, sym, ap, _∙_}
@@ -58,7 +58,7 @@ found-at h f =
     record { is = rw (k .size, h .len, f .is, k .ctrwidth, k .ctrat); at = refl; len = refl; counter = f .below }
 
 -- a message has a packet, and ends inside the transfer
-within-left : (s : Setting) (o left n : ℕ) (b : Bool) → whole s n ≤ cond b (Prim.Native.Nat.min (s .datapacket - o) left) left → whole s n ≤ left
+within-left : (s : Setting) (o left n : ℕ) (b : Bool) → whole s n ≤ cond b (min (s .datapacket - o) left) left → whole s n ≤ left
 within-left s o left n true h = omega arith
 within-left s o left n false h = h
 

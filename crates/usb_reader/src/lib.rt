@@ -23,8 +23,8 @@ use packet::Found;
 use packet::Reading;
 use packet::Row;
 use packet::Seen;
-use packet::gap16;
 use packet::gap8;
+use packet::gap16;
 use packet::kind;
 use packet::part;
 use usb::Setting;
@@ -247,7 +247,10 @@ fn judge(p: Plan, t: &[u8]) -> Judged
     requires { ⌜ Given p (now t) ⌝ }
     ensures { λ r. ⌜ JudgedAs p (now (t .entry)) r ⌝ }
 {
-    let mut a = At { q: 0, end: p.datapacket };
+    let mut a = At {
+        q: 0,
+        end: p.datapacket,
+    };
     let mut rows: usize = 0;
     loop {
         match see(p, t, a) {
@@ -359,7 +362,10 @@ fn fill(p: Plan, t: &[u8], first: Counter, rows: &mut [u32]) -> Counter
     requires { ⌜ Fillable p (now t) first (length (now rows)) ⌝ }
     ensures { λ r. ⌜ filled (now (rows .exit)) r ≡ filling p (now (rows .entry)) 0 first (ahead (setting p) (now (t .entry)) 0) ⌝ }
 {
-    let mut a = At { q: 0, end: p.datapacket };
+    let mut a = At {
+        q: 0,
+        end: p.datapacket,
+    };
     let mut i: usize = 0;
     let mut c = first;
     loop {
