@@ -11,12 +11,12 @@ use Rattle.packet.specs.declared.Found.{Found}
 use Rattle.packet.specs.Message.{Msg}
 use Rattle.packet.specs.Seen.{message}
 use Rattle.usb.specs.Reading.{ahead}
-use Rattle.usb_reader.specs.declared.Plan.{Plan}
+use Rattle.usb_step.specs.declared.Plan.{Plan}
 use Rattle.usb_reader.specs.declared.Judged.the-variants.{Rows, Refused}
-use Rattle.usb_reader.specs.Plan.{setting, Given}
-use Rattle.usb_reader.specs.Step.{Crossed, Passed}
+use Rattle.usb_step.specs.Plan.{setting, Given}
+use Rattle.usb_step.specs.Step.{Crossed, Passed}
 use Rattle.usb_reader.specs.Count.{counted, JudgedAs, Counting}
-use Rattle.usb_reader.proofs.PlaceLaws.{first-place}
+use Rattle.usb_step.proofs.PlaceLaws.{first-place}
 
 -- one row is counted, and then the others
 counted-before : (k : ℕ) (m : Msg) (o : Out Msg) → counted k (before (m ∷ []) o) ≡ counted (k + 1) o

@@ -1,14 +1,14 @@
 -- Counters of no, one and two bytes, as the code counts them.
-use Prim.Native.Nat.{ℕ, _+_, _%_, _^_, _<_, _≤_}
+use Prim.Native.Nat.{ℕ, _+_, _%_, _^_, _<_}
 use native.Mathlib.Omega.{arith}
 use native.Mathlib.Nat.{mod-lt}
-use mathlib.Core.Path.{_≡_, refl, sym, _∙_}
+use mathlib.Core.Path.{_≡_, refl}
 use mathlib.Core.Bool.{Bool, true, false, cond, _||_}
 use lib.Dec.{eqb}
 use borrow.Author.Tests.{eq-eqb, ne-eqb}
 use Rattle.packet.specs.declared.Counter.{Counter}
 use Rattle.packet.specs.Counter.{difference, gap, next, later, advance}
-use Rattle.usb_reader.specs.Rows.{Apart, Said, After, Sane, Counted, Advanced}
+use Rattle.usb_reader.specs.Rows.{Apart, Said, After, Counted, Advanced}
 
 pub in-byte : {w n : ℕ} → w ≡ 1 → n < 256 ^ w → n < 256
 in-byte e h = rw e at h

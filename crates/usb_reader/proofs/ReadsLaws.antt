@@ -1,13 +1,11 @@
 -- What is judged, and what is written, is what is answered.
-use Prim.Native.Nat.{ℕ, _+_, _*_, _^_, _<_, _≤_}
+use Prim.Native.Nat.{ℕ, _+_, _*_, _<_, _≤_}
 use native.Mathlib.Omega.{arith}
-use native.Mathlib.Nat.{zero-add}
-use mathlib.Core.Path.{_≡_, refl, sym, ap, _∙_}
-use mathlib.Core.Bool.{Bool, true, false, cond}
+use mathlib.Core.Path.{_≡_, refl, sym, ap}
+use mathlib.Core.Bool.{Bool, true, false}
 use mathlib.Core.List.{List}
 use lib.ListN.{length}
 use lib.Seq.{sets}
-use lib.Dec.{ltb}
 use borrow.Author.Tests.{lt-ltb, le-ltb, ne-eqb}
 use Rattle.layout.specs.Walk.{Out, Out.list, Out.refused}
 use Rattle.packet.specs.declared.Counter.{Counter}
@@ -22,9 +20,9 @@ use Rattle.packet.proofs.CounterLaws.{held}
 use Rattle.usb.specs.declared.Setting.{Setting}
 use Rattle.usb.specs.Setting.{W, sound}
 use Rattle.usb.specs.Reading.{ahead, judged, readOf}
-use Rattle.usb_reader.specs.declared.Plan.{Plan}
+use Rattle.usb_step.specs.declared.Plan.{Plan}
 use Rattle.usb_reader.specs.declared.Judged.the-variants.{Rows, Refused}
-use Rattle.usb_reader.specs.Plan.{setting, Ready, Given}
+use Rattle.usb_step.specs.Plan.{setting, Ready}
 use Rattle.usb_reader.specs.Count.{counted, JudgedAs}
 use Rattle.usb_reader.specs.Rows.{Sane, Filled.filled, filling, Room, Fillable}
 use Rattle.usb_reader.specs.Reads.{answerTo, Answers, Reads, Readable, Giveable}

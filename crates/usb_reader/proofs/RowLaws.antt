@@ -1,5 +1,5 @@
 -- What a turn keeps of the rows, and what the loop ends with.
-use Prim.Native.Nat.{ℕ, suc, _+_, _*_, _<_, _≤_}
+use Prim.Native.Nat.{ℕ, suc, _+_, _≤_}
 use native.Mathlib.Omega.{arith}
 use mathlib.Core.Path.{_≡_, refl, sym, ap, _∙_}
 use mathlib.Core.List.{List, [], _∷_}
@@ -20,11 +20,11 @@ use Rattle.packet.specs.Row.{row, numbers, table, behind}
 use Rattle.packet.specs.Seen.{message}
 use Rattle.packet.proofs.PartLaws.{part-inside}
 use Rattle.usb.specs.Reading.{ahead}
-use Rattle.usb_reader.specs.declared.Plan.{Plan}
-use Rattle.usb_reader.specs.Plan.{setting, Given}
-use Rattle.usb_reader.specs.Step.{Crossed, Passed}
+use Rattle.usb_step.specs.declared.Plan.{Plan}
+use Rattle.usb_step.specs.Plan.{setting}
+use Rattle.usb_step.specs.Step.{Crossed, Passed}
 use Rattle.usb_reader.specs.Rows.{Advanced, Rowable, Putting, Put, Filled.filled, filling, Room, Fillable, Filling}
-use Rattle.usb_reader.proofs.PlaceLaws.{first-place}
+use Rattle.usb_step.proofs.PlaceLaws.{first-place}
 
 ---- A row ----------------------------------------------------------------------------------------------------------------------
 

@@ -7,10 +7,10 @@ use Rattle.layout.specs.Walk.{Out, Out.list, Out.refused}
 use Rattle.packet.specs.declared.At.{At}
 use Rattle.packet.specs.Message.{Msg}
 use Rattle.usb.specs.Reading.{ahead}
-use Rattle.usb_reader.specs.declared.Plan.{Plan}
+use Rattle.usb_step.specs.declared.Plan.{Plan}
 use Rattle.usb_reader.specs.declared.Judged.{Judged}
 use Rattle.usb_reader.specs.declared.Judged.the-variants.{Rows, Refused}
-use Rattle.usb_reader.specs.Plan.{setting, Standing}
+use Rattle.usb_step.specs.Plan.{setting, Standing}
 
 -- behind k rows
 abbrev pub counted : ℕ → Out Msg → Judged

@@ -10,9 +10,9 @@ use Rattle.packet.specs.Answer.{Answer, answered}
 use Rattle.packet.specs.Row.{table, behind}
 use Rattle.usb.specs.declared.Setting.{Setting}
 use Rattle.usb.specs.Reading.{ahead, readOf}
-use Rattle.usb_reader.specs.declared.Plan.{Plan}
+use Rattle.usb_step.specs.declared.Plan.{Plan}
 use Rattle.usb_reader.specs.declared.Judged.the-variants.{Rows}
-use Rattle.usb_reader.specs.Plan.{setting, Given}
+use Rattle.usb_step.specs.Plan.{setting, Given}
 use Rattle.usb_reader.specs.Count.{counted}
 use Rattle.usb_reader.specs.Rows.{Sane}
 

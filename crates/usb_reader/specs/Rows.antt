@@ -14,8 +14,8 @@ use Rattle.packet.specs.Message.{Msg}
 use Rattle.packet.specs.Row.{row, numbers, table, behind}
 use Rattle.packet.specs.Seen.{message}
 use Rattle.usb.specs.Reading.{ahead}
-use Rattle.usb_reader.specs.declared.Plan.{Plan}
-use Rattle.usb_reader.specs.Plan.{setting, Ready, Given, Standing}
+use Rattle.usb_step.specs.declared.Plan.{Plan}
+use Rattle.usb_step.specs.Plan.{setting, Given, Standing}
 
 ---- Counters -------------------------------------------------------------------------------------------------------------------
 

@@ -1,5 +1,4 @@
 use native.Mathlib.Omega.{arith}
-use mathlib.Core.Path.{_≡_, _∙_}
 use borrow.Author.Needs.{needs}
 use Rattle.usb_reader.proofs.CounterLaws.{in-byte, in-two, apart-none}
 use Rattle.usb_reader.proofs.apart.Statement.{statement}

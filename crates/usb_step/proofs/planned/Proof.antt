@@ -1,8 +1,8 @@
 use mathlib.Core.Path.{refl}
 use borrow.Author.Needs.{needs}
-use Rattle.usb_reader.proofs.PlanLaws.{ready}
-use Rattle.usb_reader.proofs.planned.Statement.{statement}
-use Rattle.usb_reader.proofs.planned.Tie as tie
+use Rattle.usb_step.proofs.PlanLaws.{ready}
+use Rattle.usb_step.proofs.planned.Statement.{statement}
+use Rattle.usb_step.proofs.planned.Tie as tie
 
 returns : tie.Need-returns
 returns c =

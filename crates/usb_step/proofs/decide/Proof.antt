@@ -1,6 +1,6 @@
 use borrow.Author.Needs.{needs}
-use Rattle.usb_reader.proofs.decide.Statement.{statement}
-use Rattle.usb_reader.proofs.decide.Tie as tie
+use Rattle.usb_step.proofs.decide.Statement.{statement}
+use Rattle.usb_step.proofs.decide.Tie as tie
 
 returns : tie.Need-returns
 returns c = cc

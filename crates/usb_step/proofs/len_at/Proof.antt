@@ -1,8 +1,8 @@
 use native.Mathlib.Omega.{arith}
 use borrow.Author.Needs.{needs}
-use Rattle.usb_reader.proofs.StepLaws.{no-len, a-len}
-use Rattle.usb_reader.proofs.len_at.Statement.{statement}
-use Rattle.usb_reader.proofs.len_at.Tie as tie
+use Rattle.usb_step.proofs.StepLaws.{no-len, a-len}
+use Rattle.usb_step.proofs.len_at.Statement.{statement}
+use Rattle.usb_step.proofs.len_at.Tie as tie
 
 bare : tie.Need-returns
 bare c = let h = c .before .before .before .pre in no-len (h .ready) _ _ (omega arith)

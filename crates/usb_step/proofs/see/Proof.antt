@@ -1,8 +1,8 @@
 -- The step: what was measured and decided is what stands there, and what is ahead. In each answer d is the place behind `decide`.
 use borrow.Author.Needs.{needs}
-use Rattle.usb_reader.proofs.StepLaws.{sees-nothing, sees-refused, rest-on, sees-rest, fitting, message-on, sees-message}
-use Rattle.usb_reader.proofs.see.Statement.{statement}
-use Rattle.usb_reader.proofs.see.Tie as tie
+use Rattle.usb_step.proofs.StepLaws.{sees-nothing, sees-refused, rest-on, sees-rest, fitting, message-on, sees-message}
+use Rattle.usb_step.proofs.see.Statement.{statement}
+use Rattle.usb_step.proofs.see.Tie as tie
 
 message-fits : tie.Need-message-at-requires
 message-fits c κs =

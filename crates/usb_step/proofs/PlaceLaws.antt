@@ -7,9 +7,8 @@ use mathlib.Core.List.{List}
 use lib.ListN.{length}
 use borrow.Author.Needs.{needs}
 use Rattle.packet.specs.declared.At.{At}
-use Rattle.usb.specs.Reading.{stand}
-use Rattle.usb_reader.specs.declared.Plan.{Plan}
-use Rattle.usb_reader.specs.Plan.{setting, Ready, Given, Place, Standing, Onward, Moved}
+use Rattle.usb_step.specs.declared.Plan.{Plan}
+use Rattle.usb_step.specs.Plan.{Ready, Given, Place, Standing, Onward, Moved}
 
 -- two places with no end of a data packet between them have the same one ahead
 same-end : (m q next : ℕ) → 0 < m → q ≤ next → next < q + (m - q % m) → q + (m - q % m) ≡ next + (m - next % m)

@@ -1,7 +1,7 @@
 use borrow.Author.Needs.{needs}
-use Rattle.usb_reader.proofs.PlaceLaws.{in-packet, stayed, past-end}
-use Rattle.usb_reader.proofs.on.Statement.{statement}
-use Rattle.usb_reader.proofs.on.Tie as tie
+use Rattle.usb_step.proofs.PlaceLaws.{in-packet, stayed, past-end}
+use Rattle.usb_step.proofs.on.Statement.{statement}
+use Rattle.usb_step.proofs.on.Tie as tie
 
 short : tie.Need-returns
 short c = stayed (c .before .before .pre) (c .if1 .taken)

@@ -12,9 +12,9 @@ use Rattle.packet.specs.declared.Seen.the-variants.{Nothing, Message, Rest, Ref
 use Rattle.packet.specs.Seen.{message}
 use Rattle.usb.specs.Setting.{fields, H, whole}
 use Rattle.usb.specs.Reading.{space, lenAt, seen, ahead}
-use Rattle.usb_reader.specs.declared.Plan.{Plan}
-use Rattle.usb_reader.specs.declared.Sizes.{Sizes}
-use Rattle.usb_reader.specs.Plan.{setting, Ready, Standing}
+use Rattle.usb_step.specs.declared.Plan.{Plan}
+use Rattle.usb_step.specs.declared.Sizes.{Sizes}
+use Rattle.usb_step.specs.Plan.{setting, Ready, Standing}
 
 ---- What was measured ----------------------------------------------------------------------------------------------------------
 

@@ -1,11 +1,11 @@
 -- A sound setting's plan: the numbers of its header, by one test over all headers that is computed.
-use Prim.Native.Nat.{ℕ, _+_, _%_, _^_, _<_, _≤_}
+use Prim.Native.Nat.{ℕ, _≤_}
 use native.Mathlib.Omega.{arith}
 use mathlib.Core.Path.{_≡_, refl}
 use mathlib.Core.Logic.{inl, inr}
-use mathlib.Core.Bool.{Bool, true, false, _&&_, _||_}
+use mathlib.Core.Bool.{Bool, true, false, _||_}
 use mathlib.Core.List.{[]}
-use lib.Dec.{leb, ltb, eqb}
+use lib.Dec.{leb, eqb}
 use borrow.Author.Tests.{leb-true, eqb-true}
 use Rattle.layout.specs.Field.{shape, width, Name.LEN, Name.CTR}
 use Rattle.layout.proofs.FieldLaws.{inside}
@@ -14,7 +14,7 @@ use Rattle.layout.proofs.TestLaws.{and-left, and-right}
 use Rattle.usb.specs.declared.Setting.{Setting}
 use Rattle.usb.specs.Setting.{headers, header, fields, sound}
 use Rattle.usb.proofs.SettingLaws.{good, len-narrow}
-use Rattle.usb_reader.specs.Plan.{planOf, Aligned, Ready}
+use Rattle.usb_step.specs.Plan.{planOf, Aligned, Ready}
 
 -- in no header has CTR more than two bytes
 ctr-narrow : (n : ℕ) → width CTR (header n) ≤ 2

@@ -3,8 +3,8 @@ use mathlib.Core.Path.{_≡_}
 use mathlib.Core.Logic.{⊎-elim}
 use borrow.Author.Needs.{needs}
 use Rattle.layout.specs.Multiple.{pad}
-use Rattle.usb_reader.proofs.rounded.Statement.{statement}
-use Rattle.usb_reader.proofs.rounded.Tie as tie
+use Rattle.usb_step.proofs.rounded.Statement.{statement}
+use Rattle.usb_step.proofs.rounded.Tie as tie
 
 by-1 : tie.Need-returns
 unfolding pad

@@ -1,7 +1,7 @@
 use mathlib.Core.Path.{_∙_}
 use borrow.Author.Needs.{needs}
-use Rattle.usb_reader.proofs.whole.Statement.{statement}
-use Rattle.usb_reader.proofs.whole.Tie as tie
+use Rattle.usb_step.proofs.whole.Statement.{statement}
+use Rattle.usb_step.proofs.whole.Tie as tie
 
 returns : tie.Need-returns
 returns c = record { is = c .rounded .ensures .is ∙ rw (c .before .before .pre .ready .size); small = search needs }

@@ -4,34 +4,32 @@ use native.Mathlib.Omega.{arith}
 use native.Mathlib.Nat.{mod-lt}
 use mathlib.Core.Path.{_≡_, refl, sym, ap, _∙_}
 use mathlib.Core.Bool.{Bool, true, false, cond}
-use mathlib.Core.List.{List, [], _∷_}
+use mathlib.Core.List.{List}
 use lib.ListN.{length}
 use lib.Dec.{ltb}
 use borrow.Author.Needs.{needs}
 use borrow.Author.Tests.{lt-ltb, le-ltb}
-use Rattle.layout.specs.Field.{numberAt, says, Name.CTR}
 use Rattle.layout.specs.Leaf.{Number}
-use Rattle.layout.specs.Walk.{Step, before, after, Forward, Out.list, Out.refused}
+use Rattle.layout.specs.Walk.{after, Forward}
 use Rattle.layout.proofs.WalkLaws.{walk-eq}
 use Rattle.packet.specs.declared.At.{At}
 use Rattle.packet.specs.declared.Found.{Found}
 use Rattle.packet.specs.declared.Seen.{Seen}
 use Rattle.packet.specs.declared.Seen.the-variants as S
-use Rattle.packet.specs.Message.{Msg}
 use Rattle.packet.specs.Seen.{asStep}
 use Rattle.usb.specs.declared.Setting.{Setting}
 use Rattle.usb.specs.declared.Verdict.{Verdict}
 use Rattle.usb.specs.declared.Verdict.the-variants.{Stop, TakeRest, TakeMessage, Refuse}
-use Rattle.usb.specs.Setting.{fields, H, whole}
+use Rattle.usb.specs.Setting.{H, whole}
 use Rattle.usb.specs.Reading.{space, lenAt, room, judge, stand, answer, seen, step, ahead}
 use Rattle.usb.proofs.SettingLaws.{good}
 use Rattle.usb.proofs.StepLaws.{Judged, judged}
 use Rattle.usb.proofs.LaidLaws.{forward}
-use Rattle.usb_reader.specs.declared.Plan.{Plan}
-use Rattle.usb_reader.specs.declared.Sizes.{Sizes}
-use Rattle.usb_reader.specs.Plan.{setting, Ready, Onward, Moved, tested}
-use Rattle.usb_reader.specs.Step.{Len, Measured, Fitting, FoundAt, Crossed, Passed, Saw}
-use Rattle.usb_reader.proofs.PlaceLaws.{onward, stands}
+use Rattle.usb_step.specs.declared.Plan.{Plan}
+use Rattle.usb_step.specs.declared.Sizes.{Sizes}
+use Rattle.usb_step.specs.Plan.{setting, Ready, Onward, Moved, tested}
+use Rattle.usb_step.specs.Step.{Len, Measured, Fitting, FoundAt, Crossed, Passed, Saw}
+use Rattle.usb_step.proofs.PlaceLaws.{onward, stands}
 
 -- a place is inside a data packet where less than a whole one is left of it
 inside : (o m : ℕ) → o < m → ltb (m - o) m ≡ ltb 0 o

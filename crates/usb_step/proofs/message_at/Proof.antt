@@ -1,7 +1,7 @@
 use borrow.Author.Needs.{needs}
-use Rattle.usb_reader.proofs.StepLaws.{found-at}
-use Rattle.usb_reader.proofs.message_at.Statement.{statement}
-use Rattle.usb_reader.proofs.message_at.Tie as tie
+use Rattle.usb_step.proofs.StepLaws.{found-at}
+use Rattle.usb_step.proofs.message_at.Statement.{statement}
+use Rattle.usb_step.proofs.message_at.Tie as tie
 
 returns : tie.Need-returns
 returns c =

@@ -15,8 +15,8 @@ use Rattle.usb.specs.declared.Setting.{Setting}
 use Rattle.usb.specs.declared.Verdict.{Verdict}
 use Rattle.usb.specs.Setting.{fields, H, sound}
 use Rattle.usb.specs.Reading.{choose, stand}
-use Rattle.usb_reader.specs.declared.Plan.{Plan}
-use Rattle.usb_reader.specs.declared.Sizes.{Sizes}
+use Rattle.usb_step.specs.declared.Plan.{Plan}
+use Rattle.usb_step.specs.declared.Sizes.{Sizes}
 
 -- the setting of a plan
 abbrev pub setting : Plan → Setting
