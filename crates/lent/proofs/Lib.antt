@@ -1,0 +1,5 @@
+pub mod Thin
+pub mod ThinCode
+pub mod ThinCounter
+pub mod ThinState
+pub mod ThinSteps

@@ -1,0 +1,11 @@
+use borrow.Author.Needs.{needs}
+use Rattle.packet.specs.Counter.{valid}
+use Rattle.usb_reader.proofs.valid.Statement.{statement}
+use Rattle.usb_reader.proofs.valid.Tie as tie
+
+returns : tie.Need-returns
+unfolding valid
+returns c = cc
+
+pub valid-spec : {M : Type 1} → statement M
+valid-spec = tie.close (tie.spec (λ c κs. search needs) (λ c κs. search needs) returns)

@@ -1,0 +1,90 @@
+-- What the step asks and tells: what was measured and found at a place, and what is ahead behind it.
+use Prim.Native.Nat.{ℕ, _+_, _-_, _%_, _^_, _<_, _≤_}
+use mathlib.Core.Path.{_≡_}
+use mathlib.Core.List.{List, [], _∷_}
+use lib.ListN.{length}
+use Rattle.layout.specs.Field.{says, Name.CTR}
+use Rattle.layout.specs.Walk.{before, Out.list, Out.refused}
+use Rattle.packet.specs.declared.At.{At}
+use Rattle.packet.specs.declared.Found.{Found}
+use Rattle.packet.specs.declared.Seen.{Seen}
+use Rattle.packet.specs.declared.Seen.the-variants.{Nothing, Message, Rest, Refused}
+use Rattle.packet.specs.Seen.{message}
+use Rattle.usb.specs.Setting.{fields, H, whole}
+use Rattle.usb.specs.Reading.{space, lenAt, seen, ahead}
+use Rattle.usb_step.specs.declared.Plan.{Plan}
+use Rattle.usb_step.specs.declared.Sizes.{Sizes}
+use Rattle.usb_step.specs.Plan.{setting, Ready, Standing}
+
+---- What was measured ----------------------------------------------------------------------------------------------------------
+
+pub record Packet (p : Plan) (n : ℕ) : Type 0 where
+  pub ready : Ready p
+  pub small : n < 65536
+
+pub record Whole (p : Plan) (n r : ℕ) : Type 0 where
+  pub is : r ≡ whole (setting p) n
+  pub small : r ≤ n + 11
+
+-- the bytes from q to the end of the data packet or of the transfer
+pub record Header (p : Plan) (t : List ℕ) (q sp : ℕ) : Type 0 where
+  pub ready : Ready p
+  pub is : sp ≡ space (setting p) t q
+  pub inside : q + sp ≤ length t
+
+pub record Len (p : Plan) (t : List ℕ) (q r : ℕ) : Type 0 where
+  pub is : r ≡ lenAt (setting p) t q
+  pub small : r < 65536
+
+pub record Measured (p : Plan) (t : List ℕ) (a : At) (m : Sizes) : Type 0 where
+  pub standing : Standing p t a
+  pub room : m .room ≡ p .datapacket - a .q % p .datapacket
+  pub left : m .left ≡ length t - a .q
+  pub space : m .space ≡ space (setting p) t (a .q)
+  pub rest : m .rest ≡ a .q + m .space
+  pub len : m .len ≡ lenAt (setting p) t (a .q)
+  pub whole : m .whole ≡ whole (setting p) (m .len)
+  pub next : m .next ≡ a .q + m .whole
+  pub small : m .whole ≤ m .len + 11
+  pub fits : m .len < 65536
+
+---- What was found -------------------------------------------------------------------------------------------------------------
+
+-- the message lies inside the transfer
+pub record Fitting (p : Plan) (t : List ℕ) (a : At) (m : Sizes) : Type 0 where
+  pub standing : Standing p t a
+  pub len : m .len ≡ lenAt (setting p) t (a .q)
+  pub inside : a .q + m .whole ≤ length t
+  pub head : p .size ≤ m .whole
+
+pub record FoundAt (p : Plan) (t : List ℕ) (a : At) (m : Sizes) (f : Found) : Type 0 where
+  pub is : f ≡ record { at = a .q + H (setting p); len = lenAt (setting p) t (a .q); ctr = says CTR (fields (setting p)) t (a .q) }
+  pub at : f .at ≡ a .q + p .size
+  pub len : f .len ≡ m .len
+  pub counter : f .ctr < 256 ^ p .ctrwidth
+
+---- What is ahead --------------------------------------------------------------------------------------------------------------
+
+-- a message, and the place behind it
+pub record Crossed (p : Plan) (t : List ℕ) (a : At) (m : Found) (b : At) : Type 0 where
+  pub told : ahead (setting p) t (a .q) ≡ before (message t m ∷ []) (ahead (setting p) t (b .q))
+  pub on : a .q < b .q
+  pub next : Standing p t b
+  pub inside : m .at + m .len ≤ length t
+  pub counter : m .ctr < 256 ^ p .ctrwidth
+
+pub record Passed (p : Plan) (t : List ℕ) (a b : At) : Type 0 where
+  pub told : ahead (setting p) t (a .q) ≡ ahead (setting p) t (b .q)
+  pub on : a .q < b .q
+  pub next : Standing p t b
+
+abbrev pub Sees : Plan → List ℕ → At → Seen → Type 0
+Sees p t a Nothing = ahead (setting p) t (a .q) ≡ list []
+Sees p t a (Message m b) = Crossed p t a m b
+Sees p t a (Rest b) = Passed p t a b
+Sees p t a (Refused n q) = (ahead (setting p) t (a .q) ≡ refused n q) × (q ≤ length t)
+
+-- the step's answer is the definition's, and with it what a loop goes on by
+pub record Saw (p : Plan) (t : List ℕ) (a : At) (r : Seen) : Type 0 where
+  pub is : r ≡ seen (setting p) t (a .q)
+  pub ahead : Sees p t a r
