@@ -64,7 +64,7 @@ use denote.Triple.Walked.{says, Stays, stay-ref, stay-none, stay-none-slice, gav
 use denote.Triple.Walked.{AllGo, goes-none, goes-none-slice, goes-gave-slice, goes-ref}
 use Rattle.lent.proofs.ThinCode.{tail, rows-arm, refused-arm, function, at-blocks}
 use Rattle.lent.proofs.ThinState.{Stateful, parts, told-parts, told, left}
-use Rattle.lent.proofs.ThinSteps.{with-both, naming, reads, reads-field, sets, takes, freed}
+use Rattle.lent.proofs.ThinSteps.{with-both, naming, reads, reads-field, assigns-to, takes, freed}
 
 -- a type that holds no reference: at exit it is as it was passed. A crate's own is this by computation
 abbrev held : Declared → RattleType
@@ -340,9 +340,9 @@ module _ (S : Declared) (L : LL.Laws S) (S-plain : Plains (fields S)) (N : State
             move ! (1 ∷ []) $ peeks ! state (Is state) (shows 𝓤 H A state) h (LL.vals D K h) (λ was. drop ! $
             -- [the state's cell; the open borrow; obs; auth; rows' token; t's token; rows'; true; t's; s's; then at 10 + 2 · (13 − i) the
             -- local i]: _10 = *_3, _11 = &*_4.0, _12 = (_11, _4.1)
-            sets ! 16 refl (of-opd ! (load ! (from ! (hop ! (look ! 30 refl) (stop !))) (look-raw ! 0 refl))) (state-typed h was) $
-            sets ! 14 refl (addr ! (from ! (fld ! refl (hop ! (look-in ! 28 (sub ! 0 refl (whole !))) (stop !))))) (tt, tt) $
-            sets ! 12 refl
+            assigns-to ! 16 refl (of-opd ! (load ! (from ! (hop ! (look ! 30 refl) (stop !))) (look-raw ! 0 refl))) (state-typed h was) $
+            assigns-to ! 14 refl (addr ! (from ! (fld ! refl (hop ! (look-in ! 28 (sub ! 0 refl (whole !))) (stop !))))) (tt, tt) $
+            assigns-to ! 12 refl
             (agg ! (and-then ! (reads ! 14 refl) (and-then !
             (load ! (from ! (fld ! refl (stop !))) (look-in ! 28 (sub ! 1 refl (whole !)))) (no-more !))))
             (tt, (tt, (record { fits = room .0 }, tt))) $
@@ -371,16 +371,16 @@ module _ (S : Declared) (L : LL.Laws S) (S-plain : Plains (fields S)) (N : State
               -- Rows: _5 = _9.0, _6 = _9.1, *_3 = _6, _13 = Rows(_5); then _0 = _13, and the borrow is closed at the new state
               | inl v ↦ λ e f.
                   takes ! (rows-arm (layout (shape D))) refl (reads-field ! refl refl (look-tag ! 21 (whole !))) $
-                  sets ! 29 refl (of-opd ! (reads-field ! refl refl (look-in ! 21 (in-variant ! 0 0 refl refl (whole !)))))
+                  assigns-to ! 29 refl (of-opd ! (reads-field ! refl refl (look-in ! 21 (in-variant ! 0 0 refl refl (whole !)))))
                   (tt, record { fits = f .0 .1 }) $
-                  sets ! 27 refl (of-opd ! (reads-field ! refl refl (look-in ! 21 (in-variant ! 0 1 refl refl (whole !)))))
+                  assigns-to ! 27 refl (of-opd ! (reads-field ! refl refl (look-in ! 21 (in-variant ! 0 1 refl refl (whole !)))))
                   (state-typed (v .1 .0) (f .1 .0)) $
                   assigns ! (of-opd ! (reads ! 27 refl)) (from ! (hop ! (look ! 33 refl) (stop !)))
                   (store-raw ! 0 refl (state-typed (v .1 .0) (f .1 .0))) $
                   assigns-last ! (agg ! (and-then ! (lit ! tt) (and-then ! (reads ! 29 refl) (no-more !)))) (from ! (stop !))
                   (init ! 13 refl (told-typed (inl v) f)) $
                   exec ! C Λ ℓs tail (atRet ℓs Post) $
-                  sets ! 39 refl (of-opd ! (reads ! 13 refl)) (told-typed (inl v) f) $
+                  assigns-to ! 39 refl (of-opd ! (reads ! 13 refl)) (told-typed (inl v) f) $
                   owned ! state (Is state) (LL.makes D D-plain 𝓤 H A) (v .1 .0) _ (f .1 .0) $
                   move ! (1 ∷ 0 ∷ []) $ closes ! tt state (v .1 .0) (cval (v .1 .0) ∷ []) b o $
                   returns ! (look ! 38 refl) $ move ! (38 ∷ 39 ∷ []) $ freed ! $ move ! (36 ∷ 37 ∷ []) $ freed ! $
@@ -394,14 +394,14 @@ module _ (S : Declared) (L : LL.Laws S) (S-plain : Plains (fields S)) (N : State
                 | inr z ↦ λ e f. absurd z
                 | inl v ↦ λ e f.
                     takes ! refused-arm refl (reads-field ! refl refl (look-tag ! 21 (whole !))) $
-                    sets ! 25 refl (of-opd ! (reads-field ! refl refl (look-in ! 21 (in-variant ! 1 0 refl refl (whole !)))))
+                    assigns-to ! 25 refl (of-opd ! (reads-field ! refl refl (look-in ! 21 (in-variant ! 1 0 refl refl (whole !)))))
                     (tt, record { fits = f .0 .1 }) $
-                    sets ! 23 refl (of-opd ! (reads-field ! refl refl (look-in ! 21 (in-variant ! 1 1 refl refl (whole !)))))
+                    assigns-to ! 23 refl (of-opd ! (reads-field ! refl refl (look-in ! 21 (in-variant ! 1 1 refl refl (whole !)))))
                     (tt, record { fits = f .1 .0 .1 }) $
                     assigns-last ! (agg ! (and-then ! (lit ! tt) (and-then ! (reads ! 25 refl) (and-then ! (reads ! 23 refl) (no-more !)))))
                     (from ! (stop !)) (init ! 13 refl (told-typed (inr (inl v)) f)) $
                     exec ! C Λ ℓs tail (atRet ℓs Post) $
-                    sets ! 39 refl (of-opd ! (reads ! 13 refl)) (told-typed (inr (inl v)) f) $
+                    assigns-to ! 39 refl (of-opd ! (reads ! 13 refl)) (told-typed (inr (inl v)) f) $
                     owned ! state (Is state) (LL.makes D D-plain 𝓤 H A) h _ was $
                     move ! (1 ∷ 0 ∷ []) $ closes ! tt state h (cval h ∷ []) b o $
                     returns ! (look ! 38 refl) $ move ! (38 ∷ 39 ∷ []) $ freed ! $ move ! (36 ∷ 37 ∷ []) $ freed ! $

@@ -44,10 +44,10 @@ module _ {M : Type 1} {𝓤 : URA M} {H : Heap 𝓤} {A : Atoms 𝓤} {K : Type 
   reads-field t e f r = load t (from t (vrt t e (fld t f (stop t)))) r
 
   -- a local is given its first value, where room for it stands at n
-  pub sets : K → (n : ℕ) {C : Calls 𝓤 H} {Λ : Loops 𝓤 H} {q : Post 𝓤 H} {i : ℕ} {rv : RValue} {rest : Body} {v : Val}
+  pub assigns-to : K → (n : ℕ) {C : Calls 𝓤 H} {Λ : Loops 𝓤 H} {q : Post 𝓤 H} {i : ℕ} {rv : RValue} {rest : Body} {v : Val}
       → nth 𝓤 H A n Γ ≡ Vacant 𝓤 H E i → Rv K W Γ E rv v → Dec.T (hasTy (spotOf 𝓤 H E i .0) v) × WT v
       → Step K W (put 𝓤 H A n (Held 𝓤 H E i fullShare v) Γ) (runs C Λ E rest q) Γ (runs C Λ E (seq (assign (place i []) rv) rest) q)
-  sets t n e r wt = assigns t r (from t (stop t)) (init t n e wt)
+  assigns-to t n e r wt = assigns t r (from t (stop t)) (init t n e wt)
 
   -- into the arm a of a switch whose number is written out
   pub takes : K → (a : Body) {C : Calls 𝓤 H} {Λ : Loops 𝓤 H} {q : Post 𝓤 H} {c : Operand} {arms : Arms} {w : Width} {x : ℕ}

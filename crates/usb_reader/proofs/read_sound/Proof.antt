@@ -1,5 +1,6 @@
 -- In each answer v is the place behind `valid`.
 use mathlib.Core.Path.{sym, _∙_}
+use native.Mathlib.Omega.{arith}
 use borrow.Author.Needs.{needs}
 use Rattle.usb_reader.proofs.ReadsLaws.{sane, is-short, is-long, not-held}
 use Rattle.usb_reader.proofs.read_sound.Statement.{statement}
@@ -10,7 +11,7 @@ readable c κs =
     let v = c .before .before .before in
     let h = sym (v .valid .ensures) ∙ c .before .before .if1 .taken in
     record {
-      given = record { ready = v .before .before .before .pre; small = c .before .if2 .taken };
+      given = record { ready = v .before .before .before .pre; small = omega arith };
       sane = sane h;
     }
 
