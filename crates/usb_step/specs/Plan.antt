@@ -57,6 +57,10 @@ pub record Rounded (a x r : ℕ) : Type 0 where
   pub is : r ≡ x + pad a x
   pub small : r ≤ x + 7
 
+-- what a plan is made of
+pub record Sound (s : Setting) : Type 0 where
+  pub setting : sound s ≡ true
+
 -- a sound setting, and its header's numbers
 pub record Ready (p : Plan) : Type 0 where
   pub ok : sound (setting p) ≡ true

@@ -1,10 +1,9 @@
 // The USB step: a plan of the setting, and what stands at a place.
 ghost use mathlib.Core.Path.{_≡_};
-ghost use mathlib.Core.Bool.{true, cond};
+ghost use mathlib.Core.Bool.{cond};
 ghost use Prim.Native.Nat.{min};
 ghost use Rattle.usb.specs.Reading.{choose as chooseOf};
-ghost use Rattle.usb.specs.Setting.{sound as soundOf};
-ghost use Rattle.usb_step.specs.Plan.{setting, Ready, Standing, Onward, Moved, Roundable, Rounded, tested};
+ghost use Rattle.usb_step.specs.Plan.{setting, Sound, Ready, Standing, Onward, Moved, Roundable, Rounded, tested};
 ghost use Rattle.usb_step.specs.Step.{Packet, Whole, Header, Len, Measured, Fitting, FoundAt, Saw};
 use layout::both;
 use layout::field;
@@ -44,7 +43,7 @@ pub struct Sizes {
 
 // The plan of a sound setting.
 pub fn planned(s: Setting) -> Plan
-    requires { ⌜ soundOf s ≡ true ⌝ }
+    requires { ⌜ Sound s ⌝ }
     ensures { λ r. ⌜ (setting r ≡ s) × Ready r ⌝ }
 {
     let k = shape(s.header);

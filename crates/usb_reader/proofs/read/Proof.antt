@@ -5,7 +5,7 @@ use Rattle.usb_reader.proofs.read.Statement.{statement}
 use Rattle.usb_reader.proofs.read.Tie as tie
 
 is-sound : tie.Need-planned-requires
-is-sound c κs = sym (c .before .sound .ensures) ∙ c .if1 .taken
+is-sound c κs = record { setting = sym (c .before .sound .ensures) ∙ c .if1 .taken }
 
 answers : tie.Need-returns
 answers c =

@@ -7,7 +7,7 @@ use Rattle.usb_step.proofs.planned.Tie as tie
 returns : tie.Need-returns
 returns c =
     let k = c .before .before .before .before in
-    (refl, rw (k .shape .ensures) (ready _ (k .before .pre)))
+    (refl, rw (k .shape .ensures) (ready _ (k .before .pre .setting)))
 
 pub planned-spec : {M : Type 1} → statement M
 planned-spec =
