@@ -2,15 +2,23 @@
 use Prim.Native.Nat.{ℕ, _+_, _≤_}
 use native.Mathlib.Omega.{arith}
 use native.Mathlib.Nat.{zero-add}
-use mathlib.Core.Path.{_≡_, refl, sym, _∙_}
+use mathlib.Core.Path.{_≡_, refl, sym, ap, _∙_}
 use mathlib.Core.Bool.{Bool, true, false, cond}
 use mathlib.Core.List.{List}
 use lib.ListN.{length, take, drop}
 use lib.Seq.{sets, sets-eq, take-at, drop-at}
 use Rattle.layout.specs.Walk.{Out, Out.list, Out.refused}
-use Rattle.packet.specs.Answer.{Answer, settled}
+use Rattle.packet.specs.Answer.{Answer, Gives, settled}
 
 ---- Every call -----------------------------------------------------------------------------------------------------------------
+
+module _ {E : Type 0} {a : Answer E} where
+  pub gives : {r : E} {left : List ℕ} → a ≡ record { answer = r; lent = left } → Gives a r left
+  gives e = record { answer = sym (ap (λ x. x .answer) e); lent = sym (ap (λ x. x .lent) e) }
+
+  -- any two results that a contract allows are equal
+  pub one-result : {r u : E} {left past : List ℕ} → Gives a r left → Gives a u past → (r ≡ u) × (left ≡ past)
+  one-result g h = (g .answer ∙ sym (h .answer), g .lent ∙ sym (h .lent))
 
 -- why a call is refused with n at p: it was judged so, or the lent numbers are too few
 pub data Unsettled {R : Type 0} (few : List R → Bool) : ℕ → ℕ → Out R → Type 0 where

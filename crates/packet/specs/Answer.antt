@@ -58,6 +58,11 @@ pub record Answer (E : Type 0) : Type 0 where
   pub answer : E
   pub lent : List ℕ
 
+-- what a contract says of a call: it answers r, and leaves the lent numbers at `left`
+pub record Gives {E : Type 0} (a : Answer E) (r : E) (left : List ℕ) : Type 0 where
+  pub answer : r ≡ a .answer
+  pub lent : left ≡ a .lent
+
 module _ {R E : Type 0} where
   -- Refused as judged; else 4 at 0 if the lent numbers are too few; else accepted, with the numbers to be told at the front of the lent ones.
   -- Those behind are unchanged, and a refusal changes none
