@@ -240,3 +240,10 @@ frame-least s fill c b bs t fits alone f = at (eqb (L s) 0) refl
         let p : shown s fill b ≡ b = rw g (append-nil b) in
         let k : f .end ≡ e = (rw p at i) ∙ behind-end (s .align) (H s + length b) bs in
         omega (arith, frame-length s fill c b bs fits, f .sized .evened .even)
+
+-- the same of any list that the writer takes
+pub frame-shortest : (s : Setting) (fill c : ℕ) (bs : List (List ℕ)) (t : List ℕ) → 0 < length bs → (L s ≡ 0 → length bs ≡ 1)
+    → Fits s (map length bs) → Frame s (placed s fill c bs) t → length (frame s fill c bs) ≤ length t
+frame-shortest s fill c [] t z o fits f = absurd (omega arith)
+frame-shortest s fill c (b ∷ []) t z o fits f = frame-least s fill c b [] t fits (λ l. refl) f
+frame-shortest s fill c (b ∷ d ∷ bs) t z o fits f = frame-least s fill c b (d ∷ bs) t fits (λ l. absurd (omega (arith, o l))) f

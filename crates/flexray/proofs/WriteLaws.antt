@@ -14,7 +14,7 @@ use Rattle.packet.specs.declared.Writing.the-variants as W
 use Rattle.packet.specs.Message.{Msg}
 use Rattle.packet.specs.Counter.{valid, holds, later}
 use Rattle.packet.proofs.CounterLaws.{exceeds, not-held}
-use Rattle.packet.specs.Packets.{packets, mismatched, Matched, first}
+use Rattle.packet.specs.Packets.{joined, packets, mismatched, Matched, first}
 use Rattle.packet.proofs.PacketsLaws.{packets-lengths, length-packets, fit-before, unfit-there, index-is, index-none, each}
 use Rattle.packet.specs.Answer.{writeNumber, writeCounter}
 use Rattle.packet.proofs.WriterLaws.{Unwritten, Written, why-written, wrote-front, kept-past, write-keeps, exactly-unwritten, exactly-written}
@@ -26,7 +26,7 @@ use Rattle.flexray.specs.Row.{frameTable, frameState}
 use Rattle.flexray.specs.Writing.{spans, misfit, miscounted, frame, placed, placedBehind, shown, composed, writeOf}
 use Rattle.flexray.specs.Refusal.{Fine, ReadAccept, Fit, Counted, Willing, noSpan, span, WriteRefusal, WriteAccept}
 use Rattle.flexray.proofs.FitLaws.{misfit-tells, not-both-fit, length-spans, Miscount, Rightly, count-tells, not-both-count}
-use Rattle.flexray.proofs.FrameLaws.{Fits, evening-fill, written}
+use Rattle.flexray.proofs.FrameLaws.{Fits, evening-fill, written, frame-shortest}
 use Rattle.flexray.proofs.RefusalLaws.{accepted-exactly, accepted-rows}
 
 ---- The packets shown ----------------------------------------------------------------------------------------------------------
@@ -50,11 +50,19 @@ module _ (s : Setting) (fill c : ℕ) where
   unfolding placed placedBehind
   written-packet l b = rw (eq-eqb (L s) 0 l, evening-fill s fill (H s + length b) l)
 
+  -- the same by the joined bytes, which are the one packet's
+  pub written-alone : L s ≡ 0 → (ps : List (List ℕ)) → length ps ≡ 1
+      → map (λ m. m .packet) (placed s fill c ps) ≡ (joined ps ++ replicate ((H s + length (joined ps)) % 2) fill) ∷ []
+  written-alone l [] n = absurd (omega arith)
+  written-alone l (b ∷ []) n = rw (append-nil b) (written-packet l b)
+  written-alone l (b ∷ d ∷ bs) n = absurd (omega arith)
+
 -- the first carries the counter that was given
-pub written-counter : (d : Msg) (s : Setting) (fill c : ℕ) (b : List ℕ) (bs : List (List ℕ)) → 0 < W s
-    → getD (placed s fill c (b ∷ bs)) 0 d .ctr ≡ c
+pub written-counter : (d : Msg) (s : Setting) (fill c : ℕ) (bs : List (List ℕ)) → 0 < length bs → 0 < W s
+    → getD (placed s fill c bs) 0 d .ctr ≡ c
 unfolding placed
-written-counter d s fill c b bs w = rw (ne-eqb (W s) 0 (omega arith))
+written-counter d s fill c [] l w = absurd (omega arith)
+written-counter d s fill c (b ∷ bs) l w = rw (ne-eqb (W s) 0 (omega arith))
 
 behind-length : (a e : ℕ) (bs : List (List ℕ)) → length (placedBehind a e bs) ≡ length bs
 unfolding placedBehind
@@ -110,17 +118,30 @@ module _ (s : Setting) (bs ns : List ℕ) (c fill : ℕ) (out : List ℕ) where
   fitting : (i : ℕ) → i ≤ index → (j : ℕ) → j < i → Fit s (span s ns j)
   fitting = fit-before (misfit s) (misfit-tells s) noSpan (spans s ns)
 
+  -- the packets of a call that is accepted: there are some, one without LEN, and they fit
+  taken : {k d : ℕ} → writeOf s bs ns c fill out .answer ≡ W.Bytes k d
+      → (0 < length (packets ns bs)) × (L s ≡ 0 → length (packets ns bs) ≡ 1) × Fits s (map length (packets ns bs))
+  taken e =
+      let w = accepted e in
+      let r : Rightly s ns bs = why-failed (count-tells s ns bs) (w .matched) in
+      let n : length (packets ns bs) ≡ length ns = length-packets ns bs in
+      let f : Fits s ns = each (Fit s) noSpan (spans s ns) (λ j l. fitting (length ns) (w .fit) j (rw (length-spans s ns) at l)) in
+      (omega (arith, r .counted .some), λ l. n ∙ r .counted .one l, rw (packets-lengths ns bs (r .matched .same)) f)
+
   -- what the writer makes is a frame of its packets, with their counter
   pub written-laid : (k d : ℕ) → writeOf s bs ns c fill out .answer ≡ W.Bytes k d
       → Frame s (placed s fill c (packets ns bs)) (take k (writeOf s bs ns c fill out .lent))
   written-laid k d e =
       let w = accepted e in
-      let r : Rightly s ns bs = why-failed (count-tells s ns bs) (w .matched) in
-      let n : length (packets ns bs) ≡ length ns = length-packets ns bs in
-      let f : Fits s ns = each (Fit s) noSpan (spans s ns) (λ j l. fitting (length ns) (w .fit) j (rw (length-spans s ns) at l)) in
-      rw (written-front k d e)
-      (written s (w .ready .setting) fill c (w .ready .counter) (packets ns bs) (omega (arith, r .counted .some))
-      (λ l. n ∙ r .counted .one l) (rw (packets-lengths ns bs (r .matched .same)) f))
+      let (some, one, fits) = taken e in
+      rw (written-front k d e) (written s (w .ready .setting) fill c (w .ready .counter) (packets ns bs) some one fits)
+
+  -- and no frame of those packets is shorter
+  pub written-least : (k d : ℕ) → writeOf s bs ns c fill out .answer ≡ W.Bytes k d
+      → (t : List ℕ) → Frame s (placed s fill c (packets ns bs)) t → k ≤ length t
+  written-least k d e t f =
+      let (some, one, fits) = taken e in
+      rw (accepted e .count) (frame-shortest s fill c (packets ns bs) t some one fits f)
 
   -- and reads back as the same list, with every state that is not refused and every table that has room. (`written-packets` and `written-packet`
   -- say which packets those are)

@@ -4,7 +4,7 @@ use native.Mathlib.Omega.{arith}
 use native.Mathlib.Nat.{zero-add, add-zero, add-suc, suc-add}
 use mathlib.Core.Path.{_≡_, ap, _∙_}
 use mathlib.Core.Bool.{Bool, true, _&&_}
-use mathlib.Core.List.{List, [], _∷_}
+use mathlib.Core.List.{List, [], _∷_, map}
 use lib.ListN.{length, getD}
 use Rattle.layout.proofs.TestLaws.{and-left, and-right}
 
@@ -37,3 +37,9 @@ module _ {A : Type 0} where
   all-given f d [] i o e = o
   all-given f d (x ∷ xs) zero o e = and-left (f x) (all f xs) e
   all-given f d (x ∷ xs) (suc i) o e = all-given f d xs i o (and-right (f x) (all f xs) e)
+
+-- two rules that agree at every entry of a table, and at what stands for no entry, agree at every number
+pub alike : {A B : Type 0} (f g : A → B) (d : A) (xs : List A) (i : ℕ) → f d ≡ g d → map f xs ≡ map g xs → f (getD xs i d) ≡ g (getD xs i d)
+alike f g d [] i o e = o
+alike f g d (x ∷ xs) zero o e = cc
+alike f g d (x ∷ xs) (suc i) o e = alike f g d xs i o cc

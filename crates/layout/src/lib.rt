@@ -1,10 +1,11 @@
-// Headers, and numbers in their fields, low byte first; and how tests are joined.
+// Headers, and numbers in their fields, low byte first; alignment; and how tests are joined.
 ghost use mathlib.Core.Path.{_≡_};
-ghost use mathlib.Core.Bool.{_&&_, _||_};
+ghost use mathlib.Core.Bool.{cond, _&&_, _||_};
 ghost use Prim.Native.Nat.{_<_};
 ghost use lib.Seq.{sets};
 ghost use Rattle.layout.specs.Field.{bytes};
 ghost use Rattle.layout.specs.Leaf.{Within, Number};
+ghost use Rattle.layout.specs.Multiple.{Roundable, Rounded};
 
 // A header: its size, and the places and widths of LEN and CTR. The width is 0 where it has no such field.
 pub struct Shape {
@@ -91,4 +92,27 @@ pub fn either(a: bool, b: bool) -> bool
         return true;
     }
     b
+}
+
+// One of two numbers, by a test.
+pub fn pick(first: bool, a: usize, b: usize) -> usize
+    ensures { λ r. ⌜ r ≡ cond first a b ⌝ }
+{
+    if first {
+        return a;
+    }
+    b
+}
+
+// The least multiple of the alignment that is not below x: constant divisors, so that no division by a variable is left.
+pub fn rounded(align: usize, x: usize) -> usize
+    requires { ⌜ Roundable align x ⌝ }
+    ensures { λ r. ⌜ Rounded align x r ⌝ }
+{
+    match align {
+        1 => x,
+        2 => (x + 1) / 2 * 2,
+        4 => (x + 3) / 4 * 4,
+        _ => (x + 7) / 8 * 8,
+    }
 }

@@ -1,12 +1,10 @@
 -- The thin function, once for every reader: it takes the state by `&mut`, calls the reader by value, and stores the new state unless the
 -- reader refused (document 01, 'What to write where'). `ThinCode.antt` has its text.
 -- A crate cites it at its own setting S, state, reading and what is told (enums of two variants, under any names), and at what its reader
--- answers, `readOf` and `rowsOf`. `ThinCounter.antt` has our `Counter`, `Reading` and `Told` for it.
+-- and the thin function say. `ThinCounter.antt` has our `Counter`, `Reading` and `Told` for it.
 --     clauses, read-clauses   the contracts of the thin function and of the reader, which a crate's generated ones are by computation
 --     thin-by   a routine of that MIR meets its contract, where the reader that it calls meets its own, and what the thin function says
 --               follows from what the reader says
---     thin      the same where the reader's contract is r ≡ readOf .. and rows ≡ rowsOf .., and the thin function's is what these make of
---               what is told, of the state and of the rows
 -- The proof is a walk of the MIR: the borrow of the state is opened; the state is copied and passed to the reader with a copy of the
 -- transfer's reference and with the rows, which are given up to the call; the walk goes by cases on the reading; and the borrow is closed at
 -- the state that came back, or at the one that was there.
@@ -467,19 +465,3 @@ module _ (S : Declared) (L : LL.Laws S) (S-plain : Plains (fields S)) (N : State
       (tables 𝓤 H 𝓜 𝓡 γ .C) (tables 𝓤 H 𝓜 𝓡 γ .Λ) own (code read) closed
       (meets 𝓤 H (𝓖 .A) (givenOf 𝓤 H 𝓜 𝓖) read (tablesOf 𝓤 H 𝓜 (tables 𝓤 H 𝓜 𝓡 γ))
       (cited 𝓤 H (Read 𝓤 H (𝓖 .A) (givenOf 𝓤 H 𝓜 𝓖)) 𝓜 𝓡 γ read r calls met))
-
--- ---- where the reader's contract determines its reading and the last rows
-module _ (S : Declared) (L : LL.Laws S) (S-plain : Plains (fields S)) (N : Stateful)
-    (readOf : S .D → List ℕ → N .State .D → List ℕ → N .Reading) (rowsOf : S .D → List ℕ → N .State .D → List ℕ → List ℕ) where
-  abbrev pub Read-says : Reads-of S N
-  Read-says s t c rows r zs = (r ≡ readOf s t c rows) × (zs ≡ rowsOf s t c rows)
-
-  abbrev pub Thin-says : Tells-of S N
-  Thin-says s t c rows a d zs =
-      (a ≡ N .toldOf (readOf s t c rows)) × (d ≡ N .stateOf c (readOf s t c rows)) × (zs ≡ rowsOf s t c rows)
-
-  abbrev pub follows-so : Follows-of S N Read-says Thin-says
-  follows-so s t c rows r zs e = (ap (N .toldOf) (e .0), ap (N .stateOf c) (e .0), e .1)
-
-  pub thin : {M : Type 1} → Holds S L S-plain N Read-says Thin-says follows-so M
-  thin = thin-by S L S-plain N Read-says Thin-says follows-so

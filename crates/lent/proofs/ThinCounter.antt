@@ -1,22 +1,22 @@
 -- Our counter state, reading and what is told, for `Thin.antt`'s walk: what the thin function of each reader over a `Counter` cites.
 -- Assumes nothing.
 use Prim.Native.Nat.{ℕ}
-use mathlib.Core.Path.{_≡_, refl}
+use mathlib.Core.Path.{_≡_, refl, sym, ap, _∙_}
 use mathlib.Core.List.{List}
 use denote.Struct.Declared.{Declared, fields}
 use denote.Struct.Laws as LL
 use denote.Struct.Struct.{Plains}
-use Rattle.packet.specs.Answer.{Answer, readState}
+use Rattle.packet.specs.Answer.{Answer, Gives, readState}
 use Rattle.packet.specs.declared.Counter.{Counter}
 use Rattle.packet.specs.declared.Reading.{Reading}
 use Rattle.packet.specs.declared.Reading.the-variants.{Rows, Refused}
 use Rattle.packet.proofs.Counter as C
 use Rattle.packet.proofs.Counter.Laws as C′
 use Rattle.packet.proofs.Reading as R
-use Rattle.lent.specs.Told.{toldOf}
+use Rattle.lent.specs.Told.{toldOf, Tells}
 use Rattle.lent.specs.declared.Told.{Told}
 use Rattle.lent.proofs.Told as T
-use Rattle.lent.proofs.Thin.{Holds, Read-says, Thin-says, follows-so, thin}
+use Rattle.lent.proofs.Thin.{Reads-of, Tells-of, Follows-of, Holds, thin-by}
 use Rattle.lent.proofs.ThinState.{Stateful, told, left}
 
 pub told-is : (r : Reading) → toldOf r ≡ T.make (told C.the-type (R.as-values r))
@@ -49,19 +49,21 @@ counter = record {
   left-is = left-is;
 }
 
--- Where one definition has the answer and the lent rows: a reader whose contract is
---     (r ≡ readOf s t c rows .answer) × (now (rows .exit) ≡ readOf s t c rows .lent)
--- and a thin function whose contract is
---     (r ≡ toldOf (readOf s t c rows .answer)) × (now (c .exit) ≡ readState c (readOf s t c rows .answer))
---         × (now (rows .exit) ≡ readOf s t c rows .lent)
+-- A reader whose contract is `Gives` at readOf, and a thin function whose contract is `Tells` at it
 module _ (S : Declared) (L : LL.Laws S) (S-plain : Plains (fields S)) (readOf : S .D → List ℕ → Counter → List ℕ → Answer Reading) where
-  abbrev answerOf : S .D → List ℕ → Counter → List ℕ → Reading
-  answerOf s t c rows = readOf s t c rows .answer
+  abbrev Read-says : Reads-of S counter
+  Read-says s t c rows r left = Gives (readOf s t c rows) r left
 
-  abbrev rowsOf : S .D → List ℕ → Counter → List ℕ → List ℕ
-  rowsOf s t c rows = readOf s t c rows .lent
+  abbrev Thin-says : Tells-of S counter
+  Thin-says s t c rows r d left = Tells (readOf s t c rows) c r d left
 
-  pub thin-read : {M : Type 1}
-      → Holds S L S-plain counter (Read-says S L S-plain counter answerOf rowsOf) (Thin-says S L S-plain counter answerOf rowsOf)
-      (follows-so S L S-plain counter answerOf rowsOf) M
-  thin-read = thin S L S-plain counter answerOf rowsOf
+  abbrev follows : Follows-of S counter Read-says Thin-says
+  follows s t c rows r left g = record { told = ap toldOf (g .answer); state = ap (readState c) (g .answer); lent = g .lent }
+
+  pub thin-read : {M : Type 1} → Holds S L S-plain counter Read-says Thin-says follows M
+  thin-read = thin-by S L S-plain counter Read-says Thin-says follows
+
+-- any two results that its contract allows are equal
+pub one-telling : {a : Answer Reading} {c : Counter} {r u : Told} {d e : Counter} {left past : List ℕ} → Tells a c r d left
+    → Tells a c u e past → (r ≡ u) × (d ≡ e) × (left ≡ past)
+one-telling g h = (g .told ∙ sym (h .told), g .state ∙ sym (h .state), g .lent ∙ sym (h .lent))

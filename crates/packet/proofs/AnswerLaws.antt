@@ -4,6 +4,7 @@ use native.Mathlib.Omega.{arith}
 use native.Mathlib.Nat.{zero-add}
 use mathlib.Core.Path.{_≡_, refl, sym, ap, _∙_}
 use mathlib.Core.Bool.{Bool, true, false, cond}
+use mathlib.Core.Logic.{_↔_}
 use mathlib.Core.List.{List}
 use lib.ListN.{length, take, drop}
 use lib.Seq.{sets, sets-eq, take-at, drop-at}
@@ -16,9 +17,17 @@ module _ {E : Type 0} {a : Answer E} where
   pub gives : {r : E} {left : List ℕ} → a ≡ record { answer = r; lent = left } → Gives a r left
   gives e = record { answer = sym (ap (λ x. x .answer) e); lent = sym (ap (λ x. x .lent) e) }
 
+  -- what gives one answer gives any that is equal to it
+  pub gives-so : {b : Answer E} → a ≡ b → {r : E} {left : List ℕ} → Gives b r left → Gives a r left
+  gives-so e g = rw e g
+
   -- any two results that a contract allows are equal
   pub one-result : {r u : E} {left past : List ℕ} → Gives a r left → Gives a u past → (r ≡ u) × (left ≡ past)
   one-result g h = (g .answer ∙ sym (h .answer), g .lent ∙ sym (h .lent))
+
+  -- when the answer is x, any answer that a contract allows is
+  pub exactly : {r : E} {left : List ℕ} → Gives a r left → {x : E} {P : Type 0} → (a .answer ≡ x) ↔ P → (r ≡ x) ↔ P
+  exactly g e = (λ h. e .0 (sym (g .answer) ∙ h), λ p. g .answer ∙ e .1 p)
 
 -- why a call is refused with n at p: it was judged so, or the lent numbers are too few
 pub data Unsettled {R : Type 0} (few : List R → Bool) : ℕ → ℕ → Out R → Type 0 where

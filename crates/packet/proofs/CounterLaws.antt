@@ -35,6 +35,12 @@ later-is w (suc n) c h l =
     let e : c + 1 + n ≡ c + suc n = omega arith in
     rw (ne-eqb w 0 (omega arith)) (later-is w n ((c + 1) % 256 ^ w) h m ∙ mod-add-mod (c + 1) (256 ^ w) n ∙ rw e)
 
+-- and without CTR it is c
+pub later-without : (n c : ℕ) → later 0 n c ≡ c
+unfolding later next
+later-without zero c = refl
+later-without (suc n) c = later-without n c
+
 -- the counter that was expected has no gap
 pub gap-none : (w c : ℕ) → c < 256 ^ w → gap w (record { known = 1; expected = c }) c ≡ 0
 unfolding gap

@@ -106,7 +106,7 @@ module _ (sound held mismatch : Bool) (i n : ℕ) (bs out : List ℕ) (next : �
   not-settled (crowded r e l h) =
       rw (weighs sound held mismatch i n bs (Weighed.fit r e l)) (Unsettled.crowded (passed (no-room-fits out bs) (room-tells out bs) h))
 
-  unwritten : {a b : ℕ} → Unwritten sound held mismatch i n bs (length out) a b
+  pub unwritten : {a b : ℕ} → Unwritten sound held mismatch i n bs (length out) a b
       → stored next out composed ≡ record { answer = W.Refused a b; lent = out }
   unwritten u = refuses W.Refused bytesTold (fewBytes out) (λ xs. xs) out (not-settled u)
 
@@ -149,7 +149,7 @@ module _ (sound held mismatch : Bool) (i n : ℕ) (bs out : List ℕ) (next : �
           let c : k ≡ length (x .list) = cc in
           record { ready = r; matched = e; fit = l; room = omega arith; most = omega arith; count = rw y c; counter = cc }
 
-  wrote : {k d : ℕ} → Written sound held mismatch i n bs (length out) next k d
+  pub wrote : {k d : ℕ} → Written sound held mismatch i n bs (length out) next k d
       → stored next out composed ≡ record { answer = W.Bytes (length bs) next; lent = sets out 0 bs }
   wrote w =
       rw (weighs sound held mismatch i n bs (Weighed.fit (w .ready) (w .matched) (w .fit)))

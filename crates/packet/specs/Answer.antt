@@ -63,6 +63,13 @@ pub record Gives {E : Type 0} (a : Answer E) (r : E) (left : List ℕ) : Type 0 
   pub answer : r ≡ a .answer
   pub lent : left ≡ a .lent
 
+-- a refusal changes nothing
+abbrev pub readRefused : List ℕ → ℕ → ℕ → Answer Reading
+readRefused rows n p = record { answer = R.Refused n p; lent = rows }
+
+abbrev pub writeRefused : List ℕ → ℕ → ℕ → Answer Writing
+writeRefused out n p = record { answer = W.Refused n p; lent = out }
+
 module _ {R E : Type 0} where
   -- Refused as judged; else 4 at 0 if the lent numbers are too few; else accepted, with the numbers to be told at the front of the lent ones.
   -- Those behind are unchanged, and a refusal changes none

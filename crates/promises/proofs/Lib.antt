@@ -1,1 +1,6 @@
+pub mod Call
+pub mod Flexray
+pub mod OneResult
+pub mod ShutOut
 pub mod Starred
+pub mod Usb

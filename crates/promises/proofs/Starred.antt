@@ -27,24 +27,24 @@ use Rattle.flexray.specs.Row as FlexRayRow
 use Rattle.flexray.specs.Writing as FlexRayWriting
 
 -- U1 in the packing given, U2, and R
-U1 : ℕ → UsbSetting.Setting
+abbrev pub U1 : ℕ → UsbSetting.Setting
 U1 p = record { header = 1; packing = p; align = 4; datapacket = 16; longest = 64; direction = 0 }
 
-U2 : UsbSetting.Setting
+abbrev pub U2 : UsbSetting.Setting
 U2 = record { header = 5; packing = 2; align = 1; datapacket = 8; longest = 100; direction = 0 }
 
-R : FlexRaySetting.Setting
+abbrev pub R : FlexRaySetting.Setting
 R = record { node = 7; direction = 0; ceiling = 32; header = 5; align = 2 }
 
 -- header 0, node 7
-R0 : FlexRaySetting.Setting
+abbrev pub R0 : FlexRaySetting.Setting
 R0 = record { node = 7; direction = 0; ceiling = 32; header = 0; align = 1 }
 
-expecting : ℕ → Counter
+abbrev pub expecting : ℕ → Counter
 expecting n = record { known = 1; expected = n }
 
 -- a lent table or output: n numbers that are 9
-spare : ℕ → List ℕ
+abbrev pub spare : ℕ → List ℕ
 spare n = replicate n 9
 
 pub data Result : Type 0 where
@@ -52,42 +52,42 @@ pub data Result : Type 0 where
   wrote : Answer Writing → Result
 
 -- what a call answers: the count and state, or bytes and counter, and the numbers now at the front of what was lent, before `left` others
-rows : ℕ → Counter → List ℕ → ℕ → Result
+abbrev pub rows : ℕ → Counter → List ℕ → ℕ → Result
 rows k c ns left = read (record { answer = Reads.Rows k c; lent = ns ++ spare left })
 
-unread : ℕ → ℕ → ℕ → Result
+abbrev pub unread : ℕ → ℕ → ℕ → Result
 unread n p left = read (record { answer = Reads.Refused n p; lent = spare left })
 
-bytes : ℕ → ℕ → List ℕ → ℕ → Result
+abbrev pub bytes : ℕ → ℕ → List ℕ → ℕ → Result
 bytes k c bs left = wrote (record { answer = Writes.Bytes k c; lent = bs ++ spare left })
 
 pub record Example : Type 0 where
   pub gives : Result
   pub is : Result
 
-example : Result → Result → Example
+abbrev pub example : Result → Result → Example
 example r e = record { gives = r; is = e }
 
-usb-reads : UsbSetting.Setting → List ℕ → Counter → Result
+abbrev pub usb-reads : UsbSetting.Setting → List ℕ → Counter → Result
 usb-reads s t c = read (UsbReading.readOf s t c (spare 12))
 
-usb-writes : UsbSetting.Setting → (bs ns : List ℕ) → ℕ → ℕ → Bool → Result
+abbrev pub usb-writes : UsbSetting.Setting → (bs ns : List ℕ) → ℕ → ℕ → Bool → Result
 usb-writes s bs ns c fill full = wrote (UsbWriting.writeOf s bs ns c fill full (spare 16))
 
-flexray-reads : FlexRaySetting.Setting → List ℕ → Result
+abbrev pub flexray-reads : FlexRaySetting.Setting → List ℕ → Result
 flexray-reads s t = read (FlexRayReading.readOf s t fresh (spare 12))
 
-flexray-writes : FlexRaySetting.Setting → (bs ns : List ℕ) → ℕ → Result
+abbrev pub flexray-writes : FlexRaySetting.Setting → (bs ns : List ℕ) → ℕ → Result
 flexray-writes s bs ns fill = wrote (FlexRayWriting.writeOf s bs ns 0 fill (spare 16))
 
-twelve : List ℕ
+abbrev pub twelve : List ℕ
 twelve = 0x01 ∷ 0xFE ∷ 0xFF ∷ 0xEE ∷ 0x03 ∷ 0xFF ∷ 0x01 ∷ 0x02 ∷ 0x03 ∷ 0xEE ∷ 0xEE ∷ 0xEE ∷ []
 
 -- [FF], [01 02 03]
-two : List ℕ
+abbrev pub two : List ℕ
 two = 0xFF ∷ 0x01 ∷ 0x02 ∷ 0x03 ∷ []
 
-pub examples : List Example
+unfoldable pub examples : List Example
 examples =
     example (usb-writes (U1 1) two (1 ∷ 3 ∷ []) 254 0xEE false) (bytes 12 0 twelve 4)
     ∷ example (usb-writes (U1 1) two (1 ∷ 3 ∷ []) 254 0xEE true) (bytes 16 0 (twelve ++ (0x00 ∷ 0xEE ∷ 0xEE ∷ 0xEE ∷ [])) 0)
@@ -117,8 +117,7 @@ examples =
     ∷ []
 
 pub starred : map (λ x. x .gives) examples ≡ map (λ x. x .is) examples
-unfolding U1 U2 R R0 expecting spare rows unread bytes example usb-reads usb-writes flexray-reads flexray-writes twelve two examples
-    pad walk go valid gap next later advance row table behind packets mismatched first settled weighed
+unfolding examples pad walk go valid gap next later advance row table behind packets mismatched first settled weighed
     U.headers U.sound UsbReading.lenAt UsbReading.judge UsbReading.seen UsbReading.ahead UsbReading.judged UsbReading.readOf
     UsbWriting.restBytes UsbWriting.permits UsbWriting.skipped UsbWriting.write UsbWriting.misfit UsbWriting.composed UsbWriting.writeOf
     F.headers F.start F.moved F.sound FlexRayReading.seen FlexRayReading.ahead FlexRayReading.judged FlexRayRow.frameTable

@@ -8,11 +8,13 @@ use mathlib.Core.List.{List, [], _∷_}
 use lib.ListN.{length}
 use lib.Dec.{leb, ltb, eqb}
 use borrow.Author.Tests.{ltb-false, leb-false, eqb-true, eqb-false}
+use Rattle.layout.specs.Multiple.{pad}
+use Rattle.packet.specs.Message.{Msg}
 use Rattle.packet.specs.Counter.{next}
 use Rattle.usb.specs.declared.Setting.{Setting}
 use Rattle.usb.specs.Setting.{H, W, whole, sound}
 use Rattle.usb.specs.Layout.{Message}
-use Rattle.usb.specs.Writing.{restBytes, permits, skipped, write}
+use Rattle.usb.specs.Writing.{restBytes, permits, skipped, write, placed}
 use Rattle.usb.proofs.SettingLaws.{Good, good, into, cut-at}
 use Rattle.usb.proofs.LaidLaws.{message-whole}
 use Rattle.usb.proofs.WrittenLaws.{rest-length, write-length}
@@ -58,6 +60,22 @@ first-place s ok q p h b e l u m = at (permits s q (length b)) refl u
     at : (x : Bool) → permits s q (length b) ≡ x → p < q + cond x 0 (s .datapacket - q % s .datapacket) → ⊥
     at true x u = omega arith
     at false x u = never-there s (good s ok) q p h b e l u x m
+
+-- each of these messages stands at the first place, from q on, where the layout permits one with its packet
+abbrev pub AtFirst : Setting → ℕ → List Msg → Type 0
+AtFirst s q [] = Unit {0}
+AtFirst s q (m ∷ ms) =
+    ((p : ℕ) (h e : List ℕ) → q ≤ p → p + H s < m .at → Message s p h (m .packet) e → ⊥)
+    × AtFirst s (m .at + length (m .packet) + pad (s .align) (H s + length (m .packet))) ms
+
+-- those that are written do
+pub placed-first : (s : Setting) → sound s ≡ true → (q c : ℕ) (bs : List (List ℕ)) → AtFirst s q (placed s q c bs)
+unfolding placed
+placed-first s ok q c [] = tt
+placed-first s ok q c (b ∷ bs) =
+    let a : ℕ = q + skipped s q (length b) in
+    let n : a + H s + length b + pad (s .align) (H s + length b) ≡ a + whole s (length b) = omega arith in
+    (λ p h e l u. first-place s ok q p h b e l (omega arith), rw n (placed-first s ok (a + whole s (length b)) (next (W s) c) bs))
 
 ---- Filling up -----------------------------------------------------------------------------------------------------------------
 

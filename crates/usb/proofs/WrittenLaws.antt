@@ -66,7 +66,7 @@ module _ (s : Setting) (g : Good s) (fill : ℕ) where
           let h : H s ≤ n = ltb-false n (H s) (or-right (eqb (s .packing) 0) (ltb n (H s)) e) in
           simp (length-append, length-replicate, length-bytes) (omega (arith, inside LEN (fields s)))
 
-  rest-none : restBytes s fill 0 ≡ []
+  pub rest-none : restBytes s fill 0 ≡ []
   unfolding restBytes
   rest-none = at (eqb (s .packing) 0)
     where

@@ -45,9 +45,9 @@ aligned a = eqb a 1 || eqb a 2 || eqb a 4 || eqb a 8
 abbrev pub sized : ℕ → Bool
 sized m = leb 8 m && leb m 1024 && eqb (m % 8) 0
 
--- 8 to the highest number that LEN can say
+-- 8 to the highest number that a LEN of w bytes can say
 abbrev pub sayable : ℕ → ℕ → Bool
-sayable n x = leb 8 x && ltb x (256 ^ width LEN (header n))
+sayable w x = leb 8 x && ltb x (256 ^ w)
 
 unfoldable pub sound : Setting → Bool
 sound s =
@@ -55,5 +55,5 @@ sound s =
     && ltb (s .packing) 3
     && aligned (s .align)
     && sized (s .datapacket)
-    && sayable (s .header) (s .longest)
+    && sayable (width LEN (fields s)) (s .longest)
     && ltb (s .direction) 2

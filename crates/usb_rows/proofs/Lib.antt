@@ -1,3 +1,1 @@
-pub mod CountLaws
-pub mod CounterLaws
-pub mod RowLaws
+pub mod LoopLaws

@@ -25,9 +25,10 @@ use Rattle.usb.specs.Reading.{space, lenAt, room, judge, stand, answer, seen, s
 use Rattle.usb.proofs.SettingLaws.{good}
 use Rattle.usb.proofs.StepLaws.{Judged, judged}
 use Rattle.usb.proofs.LaidLaws.{forward}
-use Rattle.usb_step.specs.declared.Plan.{Plan}
+use Rattle.usb_plan.specs.declared.Plan.{Plan}
+use Rattle.usb_plan.specs.Plan.{setting, Ready, Onward, Moved}
 use Rattle.usb_step.specs.declared.Sizes.{Sizes}
-use Rattle.usb_step.specs.Plan.{setting, Ready, Onward, Moved, tested}
+use Rattle.usb_step.specs.Place.{tested}
 use Rattle.usb_step.specs.Step.{Len, Measured, Fitting, FoundAt, Crossed, Passed, Saw}
 use Rattle.usb_step.proofs.PlaceLaws.{onward, stands}
 

@@ -12,19 +12,12 @@ use Rattle.packet.specs.declared.Seen.the-variants.{Nothing, Message, Rest, Ref
 use Rattle.packet.specs.Seen.{message}
 use Rattle.usb.specs.Setting.{fields, H, whole}
 use Rattle.usb.specs.Reading.{space, lenAt, seen, ahead}
-use Rattle.usb_step.specs.declared.Plan.{Plan}
+use Rattle.usb_plan.specs.declared.Plan.{Plan}
+use Rattle.usb_plan.specs.Plan.{setting, Ready}
 use Rattle.usb_step.specs.declared.Sizes.{Sizes}
-use Rattle.usb_step.specs.Plan.{setting, Ready, Standing}
+use Rattle.usb_step.specs.Place.{Standing}
 
 ---- What was measured ----------------------------------------------------------------------------------------------------------
-
-pub record Packet (p : Plan) (n : ℕ) : Type 0 where
-  pub ready : Ready p
-  pub small : n < 65536
-
-pub record Whole (p : Plan) (n r : ℕ) : Type 0 where
-  pub is : r ≡ whole (setting p) n
-  pub small : r ≤ n + 11
 
 -- the bytes from q to the end of the data packet or of the transfer
 pub record Header (p : Plan) (t : List ℕ) (q sp : ℕ) : Type 0 where

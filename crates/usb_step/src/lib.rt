@@ -1,33 +1,19 @@
-// The USB step: a plan of the setting, and what stands at a place.
+// The USB step: what stands at a place of a transfer.
 ghost use mathlib.Core.Path.{_≡_};
-ghost use mathlib.Core.Bool.{cond};
 ghost use Prim.Native.Nat.{min};
 ghost use Rattle.usb.specs.Reading.{choose as chooseOf};
-ghost use Rattle.usb_step.specs.Plan.{setting, Sound, Ready, Standing, Onward, Moved, Roundable, Rounded, tested};
-ghost use Rattle.usb_step.specs.Step.{Packet, Whole, Header, Len, Measured, Fitting, FoundAt, Saw};
+ghost use Rattle.usb_step.specs.Place.{Standing, tested};
+ghost use Rattle.usb_step.specs.Step.{Header, Len, Measured, Fitting, FoundAt, Saw};
 use layout::both;
 use layout::field;
+use layout::pick;
 use packet::At;
 use packet::Found;
 use packet::Seen;
-use usb::Setting;
 use usb::Verdict;
-use usb::shape;
-
-// A setting's numbers, with those of its header, so that the table of headers is read once.
-pub struct Plan {
-    pub header: u32,
-    pub packing: usize,
-    pub align: usize,
-    pub datapacket: usize,
-    pub longest: usize,
-    pub direction: u32,
-    pub size: usize,
-    pub lenat: usize,
-    pub lenwidth: usize,
-    pub ctrat: usize,
-    pub ctrwidth: usize,
-}
+use usb_plan::Plan;
+use usb_plan::on;
+use usb_plan::whole;
 
 // At a place: the bytes to the end of the data packet, to the end of the transfer, and to the first of the two, which is the place `rest`;
 // LEN, or 0 where no header fits; and with that LEN a message's bytes, and the place behind them.
@@ -41,27 +27,6 @@ pub struct Sizes {
     pub next: usize,
 }
 
-// The plan of a sound setting.
-pub fn planned(s: Setting) -> Plan
-    requires { ⌜ Sound s ⌝ }
-    ensures { λ r. ⌜ (setting r ≡ s) × Ready r ⌝ }
-{
-    let k = shape(s.header);
-    Plan {
-        header: s.header,
-        packing: s.packing as usize,
-        align: s.align as usize,
-        datapacket: s.datapacket as usize,
-        longest: s.longest as usize,
-        direction: s.direction,
-        size: k.size,
-        lenat: k.lenat,
-        lenwidth: k.lenwidth,
-        ctrat: k.ctrat,
-        ctrwidth: k.ctrwidth,
-    }
-}
-
 fn least(a: usize, b: usize) -> usize
     ensures { λ r. ⌜ r ≡ min a b ⌝ }
 {
@@ -69,36 +34,6 @@ fn least(a: usize, b: usize) -> usize
         return a;
     }
     b
-}
-
-fn pick(first: bool, a: usize, b: usize) -> usize
-    ensures { λ r. ⌜ r ≡ cond first a b ⌝ }
-{
-    if first {
-        return a;
-    }
-    b
-}
-
-// The least multiple of the alignment that is not below x: constant divisors, so that no division by a variable is left.
-fn rounded(align: usize, x: usize) -> usize
-    requires { ⌜ Roundable align x ⌝ }
-    ensures { λ r. ⌜ Rounded align x r ⌝ }
-{
-    match align {
-        1 => x,
-        2 => (x + 1) / 2 * 2,
-        4 => (x + 3) / 4 * 4,
-        _ => (x + 7) / 8 * 8,
-    }
-}
-
-// The bytes of a message with a packet of n bytes.
-fn whole(p: Plan, n: usize) -> usize
-    requires { ⌜ Packet p n ⌝ }
-    ensures { λ r. ⌜ Whole p n r ⌝ }
-{
-    rounded(p.align, p.size + n)
 }
 
 // LEN of a header at q, or 0 where no header fits into the space there.
@@ -171,23 +106,6 @@ fn decide(p: Plan, m: Sizes) -> Verdict
         p.longest < m.len,
         pick(p.packing < 2, m.space, m.left) < m.whole,
     )
-}
-
-// A later place: a division only where the end of a data packet was crossed.
-fn on(p: Plan, a: At, next: usize) -> At
-    requires { ⌜ Onward p a next ⌝ }
-    ensures { λ r. ⌜ Moved p next r ⌝ }
-{
-    if next < a.end {
-        return At {
-            q: next,
-            end: a.end,
-        };
-    }
-    At {
-        q: next,
-        end: next + (p.datapacket - next % p.datapacket),
-    }
 }
 
 // The message there, which fits.

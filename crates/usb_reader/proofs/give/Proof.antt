@@ -1,20 +1,33 @@
-use native.Mathlib.Omega.{arith}
+-- In each answer f is the place behind `few`.
+use mathlib.Core.Path.{sym, _∙_}
 use borrow.Author.Needs.{needs}
-use Rattle.usb_reader.proofs.ReadsLaws.{fillable, crowded, gives}
+use borrow.Author.Tests.{ltb-true, ltb-false}
+use Rattle.rows.proofs.AnswerLaws.{is-crowded, is-given, has-room}
 use Rattle.usb_reader.proofs.give.Statement.{statement}
 use Rattle.usb_reader.proofs.give.Tie as tie
 
 no-room : tie.Need-returns
-no-room c = crowded (c .before .before .before .pre) (omega arith)
+no-room c =
+    let r = c .before .before in
+    let f = r .before .before .before in
+    let l = ltb-true _ _ (sym (f .few .ensures) ∙ r .before .before .if1 .taken) in
+    is-crowded _ _ _ (f .before .before .before .pre .judged) l (r .refuse .ensures)
 
 fits : tie.Need-fill-requires
-fits c κs = fillable (c .before .before .before .before .pre) (omega arith)
+fits c κs =
+    let f = c .before .before in
+    let g = f .before .before .before .pre in
+    let l = ltb-false _ _ (sym (f .few .ensures) ∙ c .before .if1 .left) in
+    record { given = g .given; sane = g .sane; room = has-room (g .judged) _ l }
 
 given : tie.Need-returns-2
 given c =
-    let f = c .before .before in
-    let e = f .before .before in
-    gives (e .before .before .before .pre) (omega (arith, e .if1 .left)) (f .fill .ensures)
+    let w = c .before .before in
+    let f = w .before .before .before in
+    let l = ltb-false _ _ (sym (f .few .ensures) ∙ w .before .before .if1 .left) in
+    is-given _ _ _ (f .before .before .before .pre .judged) l (w .fill .ensures)
 
 pub give-spec : {M : Type 1} → statement M
-give-spec = tie.close (tie.spec (λ c. search needs) no-room fits (λ c. search needs) (λ c. search needs) given)
+give-spec =
+    tie.close
+    (tie.spec (λ c κs. search needs) (λ c κs. search needs) (λ c. search needs) no-room fits (λ c. search needs) (λ c. search needs) given)

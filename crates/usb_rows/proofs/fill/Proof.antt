@@ -1,62 +1,58 @@
 -- The rows and the state. What is ahead, written on from here, is the whole.
 -- In each answer s is the place behind `see`, and m that behind the match.
 use Prim.Native.Nat.{_-_}
-use native.Mathlib.Omega.{arith}
 use lib.ListN.{length}
 use borrow.Author.Needs.{needs}
-use Rattle.usb_rows.specs.Rows.{Filling}
-use Rattle.usb_rows.proofs.RowLaws.{filling-start, putting, fill-message, fill-rest, fill-refused, fill-nothing}
+use Rattle.rows.proofs.FillLaws.{fill-refused, fill-nothing}
+use Rattle.usb_rows.specs.Loops.{Giving}
+use Rattle.usb_rows.proofs.LoopLaws as laws
 use Rattle.usb_rows.proofs.fill.Statement.{statement}
 use Rattle.usb_rows.proofs.fill.Tie as tie
 
 abbrev Inv-loop : tie.InvT-loop
-Inv-loop p t rows₀ a₀ i₀ c₀ rows a i c = Filling p t c₀ rows₀ a i c rows
+Inv-loop p t rows₀ a₀ i₀ c₀ rows a i c = Giving p t c₀ rows₀ a i c rows
 
 abbrev μ-loop : tie.MeasureT-loop
 μ-loop p t rows₀ a₀ i₀ c₀ rows a i c = length t - a .q
 
 begins : tie.Need-loop-holds Inv-loop μ-loop
-begins c = filling-start (c .before .before .pre)
+begins c = laws.giving (c .before .before .pre)
 
 message-put : tie.Need-put-requires Inv-loop μ-loop
 message-put c κs =
     let m = c .before .before in
     let s = m .before .before in
-    putting (s .before .loop .inv) (rw (m .m .given .1) at (s .see .ensures .ahead))
+    laws.putting (rw (m .m .given .1) at (s .see .ensures .ahead)) (s .before .loop .inv)
 
 message-less : tie.Need-loop-less Inv-loop μ-loop
 message-less c =
     let m = c .before .before .before .before .before in
-    let h = rw (m .m .given .1) at (m .before .before .see .ensures .ahead) in
-    omega arith
+    laws.message-less (rw (m .m .given .1) at (m .before .before .see .ensures .ahead))
 
 message-again : tie.Need-loop-again Inv-loop μ-loop
 message-again c =
     let w = c .before .before in
     let m = w .before .before .before in
     let s = m .before .before in
-    fill-message (s .before .loop .inv) (rw (m .m .given .1) at (s .see .ensures .ahead)) (w .put .ensures)
+    laws.message-given (rw (m .m .given .1) at (s .see .ensures .ahead)) (s .before .loop .inv) (w .put .ensures)
 
 rest-less : tie.Need-loop-less-2 Inv-loop μ-loop
-rest-less c =
-    let s = c .before .before .before in
-    let h = rw (c .before .next .given .1) at (s .see .ensures .ahead) in
-    omega arith
+rest-less c = laws.rest-less (rw (c .before .next .given .1) at (c .before .before .before .see .ensures .ahead))
 
 rest-again : tie.Need-loop-again-2 Inv-loop μ-loop
 rest-again c =
     let s = c .before .before .before in
-    fill-rest (s .before .loop .inv) (rw (c .before .next .given .1) at (s .see .ensures .ahead))
+    laws.rest-given (rw (c .before .next .given .1) at (s .see .ensures .ahead)) (s .before .loop .inv)
 
 refused : tie.Need-returns Inv-loop μ-loop
 refused c =
     let s = c .before .before in
-    absurd (fill-refused (s .before .loop .inv) (rw (c .enum-told .given .1) at (s .see .ensures .ahead) .0))
+    absurd (fill-refused (s .before .loop .inv .fill) (rw (c .enum-told .given .1) at (s .see .ensures .ahead) .0))
 
 nothing : tie.Need-returns-2 Inv-loop μ-loop
 nothing c =
     let s = c .before .before in
-    fill-nothing (s .before .loop .inv) (rw (c .enum-told2 .given .1) at (s .see .ensures .ahead))
+    fill-nothing (s .before .loop .inv .fill) (rw (c .enum-told2 .given .1) at (s .see .ensures .ahead))
 
 pub fill-spec : {M : Type 1} → statement M
 fill-spec =

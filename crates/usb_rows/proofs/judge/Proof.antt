@@ -4,51 +4,51 @@ use Prim.Native.Nat.{_-_}
 use native.Mathlib.Omega.{arith}
 use lib.ListN.{length}
 use borrow.Author.Needs.{needs}
-use Rattle.usb_rows.specs.Count.{Counting}
-use Rattle.usb_rows.proofs.CountLaws.{counting, count-message, count-rest, count-refused, count-nothing}
+use Rattle.rows.proofs.CountLaws.{count-refused, count-nothing}
+use Rattle.usb_rows.specs.Loops.{Judging}
+use Rattle.usb_rows.proofs.LoopLaws as laws
 use Rattle.usb_rows.proofs.judge.Statement.{statement}
 use Rattle.usb_rows.proofs.judge.Tie as tie
 
 abbrev Inv-loop : tie.InvT-loop
-Inv-loop p t a₀ rows₀ a rows = Counting p t a rows
+Inv-loop p t a₀ rows₀ a rows = Judging p t a rows
 
 abbrev μ-loop : tie.MeasureT-loop
 μ-loop p t a₀ rows₀ a rows = length t - a .q
 
 begins : tie.Need-loop-holds Inv-loop μ-loop
-begins c = counting (c .before .pre)
+begins c = laws.judging (c .before .pre)
 
 message-less : tie.Need-loop-less Inv-loop μ-loop
-message-less c =
-    let s = c .before .before .before in
-    let h = rw (c .before .next .given .1) at (s .see .ensures .ahead) in
-    omega arith
+message-less c = laws.message-less (rw (c .before .next .given .1) at (c .before .before .before .see .ensures .ahead))
 
 message-again : tie.Need-loop-again Inv-loop μ-loop
 message-again c =
     let s = c .before .before .before in
-    count-message (s .before .loop .inv) (rw (c .before .next .given .1) at (s .see .ensures .ahead))
+    laws.message-judged (rw (c .before .next .given .1) at (s .see .ensures .ahead)) (s .before .loop .inv)
 
 rest-less : tie.Need-loop-less-2 Inv-loop μ-loop
-rest-less c =
-    let s = c .before .before .before in
-    let h = rw (c .before .next2 .given .1) at (s .see .ensures .ahead) in
-    omega arith
+rest-less c = laws.rest-less (rw (c .before .next2 .given .1) at (c .before .before .before .see .ensures .ahead))
 
 rest-again : tie.Need-loop-again-2 Inv-loop μ-loop
 rest-again c =
     let s = c .before .before .before in
-    count-rest (s .before .loop .inv) (rw (c .before .next2 .given .1) at (s .see .ensures .ahead))
+    laws.rest-judged (rw (c .before .next2 .given .1) at (s .see .ensures .ahead)) (s .before .loop .inv)
 
 refused : tie.Need-returns Inv-loop μ-loop
 refused c =
     let s = c .before .before .before in
-    count-refused (s .before .loop .inv) (rw (c .before .n .given .1) at (s .see .ensures .ahead))
+    let (e, h) = rw (c .before .n .given .1) at (s .see .ensures .ahead) in
+    record { is = count-refused (s .before .loop .inv .count) e; small = h }
 
 nothing : tie.Need-returns-2 Inv-loop μ-loop
 nothing c =
     let s = c .before .before in
-    count-nothing (s .before .loop .inv) (rw (c .enum-told .given .1) at (s .see .ensures .ahead))
+    let i = s .before .loop .inv in
+    record {
+      is = count-nothing (i .count) (rw (c .enum-told .given .1) at (s .see .ensures .ahead));
+      small = omega (arith, i .count .few, i .standing .within);
+    }
 
 pub judge-spec : {M : Type 1} → statement M
 judge-spec =

@@ -1,0 +1,166 @@
+-- What is promised of a call, in document 01's words and once for both transports. Usb and Flexray say it of the functions: of any answer that a
+-- contract allows, and of the lent table or output as the call then leaves it.
+use Prim.Native.Nat.{ℕ, _+_, _*_, _%_, _^_, _<_, _≤_}
+use mathlib.Core.Path.{_≡_, refl, sym, ap, _∙_}
+use mathlib.Core.Bool.{true}
+use mathlib.Core.Logic.{_↔_}
+use mathlib.Core.List.{List, map}
+use lib.ListN.{length, take, drop}
+use Rattle.packet.specs.declared.Counter.{Counter}
+use Rattle.packet.specs.declared.Reading.{Reading}
+use Rattle.packet.specs.declared.Reading.the-variants as R
+use Rattle.packet.specs.declared.Writing.{Writing}
+use Rattle.packet.specs.declared.Writing.the-variants as W
+use Rattle.packet.specs.Message.{Msg}
+use Rattle.packet.specs.Counter.{holds, later}
+use Rattle.packet.specs.Packets.{joined, packets, Matched}
+use Rattle.packet.specs.Answer.{Answer, Gives, Accepted, readNumber, readState, writeNumber, writeCounter}
+use Rattle.packet.proofs.AnswerLaws.{exactly}
+use Rattle.packet.proofs.CounterLaws.{later-is, later-without, held}
+use Rattle.packet.proofs.PacketsLaws.{Each, packets-lengths, packets-joined}
+use Rattle.packet.proofs.SeenLaws.{Shown}
+use Rattle.lent.specs.declared.Told.{Told}
+use Rattle.lent.specs.Told.{toldOf, Tells}
+
+-- every call is answered
+pub answered : {E : Type 0} (a : Answer E) → (r : E) × (left : List ℕ) × Gives a r left
+answered a = (a .answer, a .lent, record { answer = refl; lent = refl })
+
+---- Readers --------------------------------------------------------------------------------------------------------------------
+
+-- the answer r is some count of rows and some state
+abbrev pub IsRows : Reading → Type 0
+IsRows r = (k : ℕ) × (d : Counter) × (r ≡ R.Rows k d)
+
+-- A read of t into the table rows, that answers r and leaves the table at `left`. `Whole ms` says that t holds the messages ms; their rows are `tab ms`,
+-- and they leave the state `state ms`
+module _ (Whole : List Msg → Type 0) (tab : List Msg → List ℕ) (state : List Msg → Counter) (t rows : List ℕ) (r : Reading) (left : List ℕ) where
+  -- it gives the messages ms
+  pub record Given (ms : List Msg) : Type 0 where
+    pub told : r ≡ R.Rows (length ms) (state ms)
+    -- their rows stand at the front of the table, and those behind are unchanged
+    pub front : take (5 * length ms) left ≡ tab ms
+    pub past : drop (5 * length ms) left ≡ drop (5 * length ms) rows
+    -- a row's part shows exactly its packet's bytes
+    pub shown : Each (Shown t) ms
+    -- no other list makes up the input
+    pub only : (ns : List Msg) → Whole ns → ns ≡ ms
+
+-- The same with the state c. `Refusal n p` says that document 01's table gives n at p, and `Fine` that neither the setting nor the state is refused
+module _ (Refusal : ℕ → ℕ → Type 0) (Fine : Type 0) (Whole : List Msg → Type 0) (tab : List Msg → List ℕ) (state : List Msg → Counter)
+    (t : List ℕ) (c : Counter) (rows : List ℕ) (r : Reading) (left : List ℕ) where
+  pub record Read : Type 0 where
+    -- it is refused with n at p exactly when the table says so
+    pub refused : (n p : ℕ) → (r ≡ R.Refused n p) ↔ Refusal n p
+    -- a refusal has a number from 1 to 8, writes nothing and leaves the state
+    pub refusal : (n p : ℕ) → r ≡ R.Refused n p → (0 < n) × (n ≤ 8) × (left ≡ rows) × (readState c r ≡ c)
+    -- it is accepted with k rows and the state d exactly when some list makes up the input and has room, with that list's count and state
+    pub accepted : (k : ℕ) (d : Counter) → (r ≡ R.Rows k d) ↔ Accepted Fine Whole state (length rows) k d
+    -- Demand 3: it is accepted exactly if some list of messages makes up the input and the table has room, at most one list does, and it gives that list
+    pub demand : IsRows r ↔ ((ms : List Msg) × Fine × Whole ms × (5 * length ms ≤ length rows))
+    pub gives : (ms : List Msg) → Fine → Whole ms → 5 * length ms ≤ length rows → Given Whole tab state t rows r left ms
+
+-- it keeps all that where the laws of its transport hold
+module _ {Refusal : ℕ → ℕ → Type 0} {Fine : Type 0} {Whole : List Msg → Type 0} {tab : List Msg → List ℕ} {state : List Msg → Counter}
+    {t : List ℕ} {c : Counter} {rows : List ℕ} {r : Reading} {left : List ℕ} {a : Answer Reading}
+    (refuses : (n p : ℕ) → (a .answer ≡ R.Refused n p) ↔ Refusal n p) (number : (n p : ℕ) → Refusal n p → (0 < n) × (n ≤ 8))
+    (keeps : 0 < readNumber (a .answer) → (a .lent ≡ rows) × (readState c (a .answer) ≡ c))
+    (accepts : (k : ℕ) (d : Counter) → (a .answer ≡ R.Rows k d) ↔ Accepted Fine Whole state (length rows) k d)
+    (put : (ms : List Msg) → Fine → Whole ms → 5 * length ms ≤ length rows
+    → (take (5 * length ms) (a .lent) ≡ tab ms) × (drop (5 * length ms) (a .lent) ≡ drop (5 * length ms) rows))
+    (unique : (ms ns : List Msg) → Whole ms → Whole ns → ms ≡ ns) (shows : (ms : List Msg) → Whole ms → Each (Shown t) ms) where
+  pub read-promised : Gives a r left → Read Refusal Fine Whole tab state t c rows r left
+  read-promised g =
+      record {
+        refused = λ n p. exactly g (refuses n p);
+        refusal = refusal;
+        accepted = λ k d. exactly g (accepts k d);
+        demand = (from, λ x. (length (x .0), state (x .0), told (x .0) (x .1) (x .2) (x .3)));
+        gives = given;
+      }
+    where
+      refusal : (n p : ℕ) → r ≡ R.Refused n p → (0 < n) × (n ≤ 8) × (left ≡ rows) × (readState c r ≡ c)
+      refusal n p e =
+          let (least, most) = number n p (exactly g (refuses n p) .0 e) in
+          let x : a .answer ≡ R.Refused n p = sym (g .answer) ∙ e in
+          (least, most, g .lent ∙ keeps (rw x least) .0, rw e)
+
+      from : IsRows r → (ms : List Msg) × Fine × Whole ms × (5 * length ms ≤ length rows)
+      from x = let y = exactly g (accepts (x .0) (x .1)) .0 (x .2) in (y .messages, y .fine, y .whole, y .room)
+
+      told : (ms : List Msg) → Fine → Whole ms → 5 * length ms ≤ length rows → r ≡ R.Rows (length ms) (state ms)
+      told ms f x l =
+          exactly g (accepts (length ms) (state ms)) .1
+          (record { fine = f; messages = ms; whole = x; room = l; count = refl; left = refl })
+
+      given : (ms : List Msg) → Fine → Whole ms → 5 * length ms ≤ length rows → Given Whole tab state t rows r left ms
+      given ms f x l =
+          record {
+            told = told ms f x l;
+            front = rw (g .lent) (put ms f x l .0);
+            past = rw (g .lent) (put ms f x l .1);
+            shown = shows ms x;
+            only = λ ns y. unique ns ms y x;
+          }
+
+---- The state lent -------------------------------------------------------------------------------------------------------------
+
+-- a read with the state lent tells the same as a read by value, advances the state where it lies, and leaves the same table
+pub as-by-value : {c : Counter} {a : Answer Reading} {r : Reading} {left : List ℕ} → Gives a r left
+    → {u : Told} {d : Counter} {past : List ℕ} → Tells a c u d past → (u ≡ toldOf r) × (d ≡ readState c r) × (past ≡ left)
+as-by-value {c} g h = (h .told ∙ sym (ap toldOf (g .answer)), h .state ∙ sym (ap (readState c) (g .answer)), h .lent ∙ sym (g .lent))
+
+---- Writers --------------------------------------------------------------------------------------------------------------------
+
+-- A write with the first counter c into the output, that answers r and leaves the output at `left`. `Accept k d`: nothing is refused, and k bytes are
+-- written, and d is the next counter
+module _ (Refusal Accept : ℕ → ℕ → Type 0) (c : ℕ) (out : List ℕ) (r : Writing) (left : List ℕ) where
+  pub record Write : Type 0 where
+    -- it is refused with n at p exactly when the table says so
+    pub refused : (n p : ℕ) → (r ≡ W.Refused n p) ↔ Refusal n p
+    -- a refusal has a number from 1 to 8, writes nothing and leaves the counter
+    pub refusal : (n p : ℕ) → r ≡ W.Refused n p → (0 < n) × (n ≤ 8) × (left ≡ out) × (writeCounter c r ≡ c)
+    -- it is accepted with k bytes and the next counter d exactly when nothing is refused
+    pub accepted : (k d : ℕ) → (r ≡ W.Bytes k d) ↔ Accept k d
+
+module _ {Refusal Accept : ℕ → ℕ → Type 0} {c : ℕ} {out : List ℕ} {r : Writing} {left : List ℕ} {a : Answer Writing}
+    (refuses : (n p : ℕ) → (a .answer ≡ W.Refused n p) ↔ Refusal n p) (number : (n p : ℕ) → Refusal n p → (0 < n) × (n ≤ 8))
+    (keeps : 0 < writeNumber (a .answer) → (a .lent ≡ out) × (writeCounter c (a .answer) ≡ c))
+    (accepts : (k d : ℕ) → (a .answer ≡ W.Bytes k d) ↔ Accept k d) where
+  pub write-promised : Gives a r left → Write Refusal Accept c out r left
+  write-promised g = record { refused = λ n p. exactly g (refuses n p); refusal = refusal; accepted = λ k d. exactly g (accepts k d) }
+    where
+      refusal : (n p : ℕ) → r ≡ W.Refused n p → (0 < n) × (n ≤ 8) × (left ≡ out) × (writeCounter c r ≡ c)
+      refusal n p e =
+          let (least, most) = number n p (exactly g (refuses n p) .0 e) in
+          let x : a .answer ≡ W.Refused n p = sym (g .answer) ∙ e in
+          (least, most, g .lent ∙ keeps (rw x least) .0, rw e)
+
+-- A write of packets of the lengths ns in the joined bytes bs, with the first counter c of w bytes, that comes to the bytes `made` and moves the
+-- counter by n; it answers k bytes and the next counter d, and leaves the output at `left`
+module _ (bs ns : List ℕ) (c w n : ℕ) (made out : List ℕ) (k d : ℕ) (left : List ℕ) where
+  pub record Bytes : Type 0 where
+    -- the packets have the lengths given, and joined they are the bytes
+    pub lengths : map length (packets ns bs) ≡ ns
+    pub joins : joined (packets ns bs) ≡ bs
+    -- the bytes stand at the front of the output, and those behind are unchanged
+    pub count : k ≡ length made
+    pub front : take k left ≡ made
+    pub past : drop k left ≡ drop k out
+    -- the next counter; the first counter unchanged where there is no CTR
+    pub next : 0 < w → d ≡ (c + n) % 256 ^ w
+    pub unaltered : w ≡ 0 → d ≡ c
+
+pub bytes-promised : {bs ns : List ℕ} {c w n : ℕ} {made out : List ℕ} {k d : ℕ} {left : List ℕ} {a : Answer Writing} → Gives a (W.Bytes k d) left
+    → Matched ns bs → holds w c ≡ true → k ≡ length made → d ≡ later w n c → take k (a .lent) ≡ made → drop k (a .lent) ≡ drop k out
+    → Bytes bs ns c w n made out k d left
+bytes-promised {bs} {ns} {c} {w} {n} g m v count next front past =
+    record {
+      lengths = packets-lengths ns bs (m .same);
+      joins = packets-joined ns bs (m .same);
+      count = count;
+      front = rw (g .lent) front;
+      past = rw (g .lent) past;
+      next = λ h. next ∙ later-is w n c h (held w c v h);
+      unaltered = λ z. next ∙ rw z (later-without n c);
+    }

@@ -1,0 +1,132 @@
+-- What is promised of a FlexRay reader and writer with the contracts `Reads` and `Writes`: each theorem is about any answer r that the contract allows,
+-- and about the lent table or output as the call then leaves it. OneResult says that there is only one.
+use Prim.Native.Nat.{ℕ, _+_, _*_, _%_, _<_, _≤_}
+use native.Mathlib.Omega.{arith}
+use mathlib.Core.Path.{_≡_, refl, sym, _∙_}
+use mathlib.Core.Bool.{true}
+use mathlib.Core.Logic.{_↔_}
+use mathlib.Core.List.{List, [], _∷_, _++_, map}
+use lib.ListN.{length, take, getD, replicate}
+use Rattle.packet.specs.declared.Counter.{Counter}
+use Rattle.packet.specs.declared.Reading.{Reading}
+use Rattle.packet.specs.declared.Reading.the-variants as R
+use Rattle.packet.specs.declared.Writing.{Writing}
+use Rattle.packet.specs.declared.Writing.the-variants as W
+use Rattle.packet.specs.Message.{Msg}
+use Rattle.packet.specs.Counter.{valid}
+use Rattle.packet.specs.Packets.{packets}
+use Rattle.packet.specs.Answer.{Gives, readState}
+use Rattle.packet.proofs.PacketsLaws.{length-packets}
+use Rattle.flexray.specs.declared.Setting.{Setting}
+use Rattle.flexray.specs.Setting.{H, L, W, moved}
+use Rattle.flexray.specs.Layout.{Frame}
+use Rattle.flexray.specs.Row.{frameTable, frameState}
+use Rattle.flexray.specs.Reading.{readOf}
+use Rattle.flexray.specs.Writing.{frame, placed, writeOf}
+use Rattle.flexray.specs.Refusal.{Fine, ReadRefusal, WriteRefusal, WriteAccept}
+use Rattle.flexray.proofs.ReadLaws.{read-unique, parts-show}
+use Rattle.flexray.proofs.RefusalLaws.{refused-exactly, read-number, refused-keeps, accepted-exactly, accepted-rows, counter-unread, counter-unaltered}
+use Rattle.flexray.proofs.WriteLaws as Laws
+use Rattle.promises.proofs.Call.{IsRows, Given, Read, read-promised, Write, write-promised, Bytes, bytes-promised}
+
+---- The reader -----------------------------------------------------------------------------------------------------------------
+
+-- a frame t is read with the state c into the table rows
+module _ (s : Setting) (t : List ℕ) (c : Counter) (rows : List ℕ) where
+  -- what a read may answer and leave
+  abbrev pub Reads : Reading → List ℕ → Type 0
+  Reads r left = Gives (readOf s t c rows) r left
+
+  -- what document 01 says of such a call
+  abbrev pub Promised : Reading → List ℕ → Type 0
+  Promised r left =
+      Read (ReadRefusal s t c (length rows)) (Fine s c) (λ ms. Frame s ms t) (frameTable (s .direction) (W s) c) (frameState (W s) c) t c rows r left
+
+  -- refused and accepted exactly when it says so; a refusal changes nothing
+  pub reads : {r : Reading} {left : List ℕ} → Reads r left → Promised r left
+  reads =
+      read-promised (refused-exactly s t c rows) (λ n p. read-number) (refused-keeps s t c rows) (accepted-exactly s t c rows) (accepted-rows s t c rows)
+      (read-unique s t) (parts-show s t)
+
+  -- the call gives the packets ms, and no other list makes up the frame
+  abbrev pub Gave : Reading → List ℕ → List Msg → Type 0
+  Gave r left = Given (λ ms. Frame s ms t) (frameTable (s .direction) (W s) c) (frameState (W s) c) t rows r left
+
+  -- Demand 3: it is accepted exactly if some list of packets is laid out as the frame and the table has room, and then it gives that one list
+  pub demand-3 : {r : Reading} {left : List ℕ} → Reads r left
+      → (IsRows r ↔ ((ms : List Msg) × Fine s c × Frame s ms t × (5 * length ms ≤ length rows)))
+      × ((ms : List Msg) → Fine s c → Frame s ms t → 5 * length ms ≤ length rows → Gave r left ms)
+  demand-3 g = (reads g .demand, reads g .gives)
+
+  -- without CTR the state is not altered
+  pub read-unaltered : W s ≡ 0 → {r : Reading} {left : List ℕ} → Reads r left → readState c r ≡ c
+  read-unaltered none g = rw (g .answer) (counter-unaltered s t none rows c)
+
+-- nor is it read: two states give the same rows
+pub read-unread : (s : Setting) (t rows : List ℕ) → W s ≡ 0 → (b c : Counter) {r u : Reading} {left past : List ℕ}
+    → Reads s t b rows r left → Reads s t c rows u past → left ≡ past
+read-unread s t rows none b c g h = g .lent ∙ counter-unread s t none rows b c ∙ sym (h .lent)
+
+---- The writer -----------------------------------------------------------------------------------------------------------------
+
+-- packets of the lengths ns in the joined bytes bs are written with the counter c and a fill byte into the output
+module _ (s : Setting) (bs ns : List ℕ) (c fill : ℕ) (out : List ℕ) where
+  -- what a write may answer and leave
+  abbrev pub Writes : Writing → List ℕ → Type 0
+  Writes r left = Gives (writeOf s bs ns c fill out) r left
+
+  -- refused and accepted exactly when document 01 says so; a refusal changes nothing
+  pub writes : {r : Writing} {left : List ℕ} → Writes r left
+      → Write (WriteRefusal s bs ns c fill (length out)) (WriteAccept s bs ns c fill (length out)) c out r left
+  writes =
+      write-promised (Laws.write-refused-exactly s bs ns c fill out) (λ n p. Laws.write-number) (Laws.write-refused-keeps s bs ns c fill out)
+      (Laws.written-exactly s bs ns c fill out)
+
+  -- the packets that are given, and those that a reader sees
+  abbrev pub given : List (List ℕ)
+  given = packets ns bs
+
+  abbrev pub sent : List Msg
+  sent = placed s fill c given
+
+  -- what holds of a call that answers k bytes and the next counter d, and leaves the output at `left`
+  pub record Written (k d : ℕ) (left : List ℕ) : Type 0 where
+    pub bytes : Bytes bs ns c (W s) (moved (length ns)) (frame s fill c given) out k d left
+    -- they are a frame of the packets given
+    pub laid : Frame s sent (take k left)
+    pub same : 0 < L s → map (λ m. m .packet) sent ≡ given
+    -- without LEN of the one packet, perhaps with the fill byte that evens the frame
+    pub alone : L s ≡ 0 → map (λ m. m .packet) sent ≡ (bs ++ replicate ((H s + length bs) % 2) fill) ∷ []
+    -- the first packet carries the counter
+    pub counter : 0 < W s → (m : Msg) → getD sent 0 m .ctr ≡ c
+    -- the length is even, and no frame of these packets is shorter
+    pub even : k % 2 ≡ 0
+    pub least : (t : List ℕ) → Frame s sent t → k ≤ length t
+
+  pub written : {k d : ℕ} {left : List ℕ} → Writes (W.Bytes k d) left → Written k d left
+  written {k} {d} {left} g =
+      let e : writeOf s bs ns c fill out .answer ≡ W.Bytes k d = sym (g .answer) in
+      let a : WriteAccept s bs ns c fill (length out) k d = writes g .accepted k d .0 refl in
+      let n : length given ≡ length ns = length-packets ns bs in
+      let f = Laws.written-front s bs ns c fill out k d e in
+      let x = Laws.written-laid s bs ns c fill out k d e in
+      let b : Bytes bs ns c (W s) (moved (length ns)) (frame s fill c given) out k d left =
+      bytes-promised g (a .matched) (a .willing .counter) (a .count) (a .next)
+      f (Laws.written-past s bs ns c fill out k d e) in
+      record {
+        bytes = b;
+        laid = rw (g .lent) x;
+        same = λ l. Laws.written-packets s fill c l given;
+        alone = λ l. rw (b .joins) at (Laws.written-alone s fill c l given (n ∙ a .counted .one l));
+        counter = λ w m. Laws.written-counter m s fill c given (omega (arith, a .counted .some)) w;
+        even = rw (a .count) (rw f at (x .sized .evened .even));
+        least = Laws.written-least s bs ns c fill out k d e;
+      }
+
+  -- What was written reads back, with every state that is not refused and every table that has room: `same` and `alone` say which packets those are
+  module _ {k d : ℕ} {left : List ℕ} (g : Writes (W.Bytes k d) left) (e : Counter) (rows : List ℕ) where
+    pub round-trip : {r : Reading} {past : List ℕ} → Reads s (take k left) e rows r past → valid (W s) e ≡ true → 5 * length ns ≤ length rows
+        → (r ≡ R.Rows (length ns) (frameState (W s) e sent)) × (take (5 * length ns) past ≡ frameTable (s .direction) (W s) e sent)
+    round-trip h v l =
+        let (x, y) = Laws.round-trip s bs ns c fill out k d (sym (g .answer)) e rows v l in
+        (rw (h .answer, g .lent) x, rw (h .lent, g .lent) y)

@@ -1,0 +1,4 @@
+pub mod Count
+pub mod Counters
+pub mod Fill
+pub mod Rows

@@ -1,9 +1,0 @@
-use borrow.Author.Needs.{needs}
-use Rattle.usb.proofs.aligned.Statement.{statement}
-use Rattle.usb.proofs.aligned.Tie as tie
-
-returns : tie.Need-returns
-returns c = rw (c .either3 .ensures, c .before .either2 .ensures, c .before .before .either .ensures)
-
-pub aligned-spec : {M : Type 1} → statement M
-aligned-spec = tie.close (tie.spec (λ c κs. search needs) (λ c κs. search needs) (λ c κs. search needs) returns)

@@ -1,0 +1,107 @@
+// Where messages come to stand in a transfer that is written, and how long it becomes.
+ghost use mathlib.Core.Path.{_≡_};
+ghost use Rattle.usb_plan.specs.Plan.{Ready};
+ghost use Rattle.usb_size.specs.Size.{Spaced, Skipped, Placing, Placed, Unfit, Sizable, SizedAs, Ended};
+use layout::both;
+use layout::pick;
+use packet::At;
+use usb_plan::Plan;
+use usb_plan::on;
+use usb_plan::whole;
+
+// Where a message comes to stand: the bytes passed over, its start, its bytes, and the place behind it.
+pub struct Spot {
+    pub skip: usize,
+    pub from: usize,
+    pub whole: usize,
+    pub next: At,
+}
+
+// The place behind all messages, or the least index of a length that does not fit.
+pub enum Sized {
+    Fits(At),
+    Misfit(usize),
+}
+
+// The bytes passed over to the first place where a message of so many bytes may stand: to the next data packet, if to any.
+fn skipped(p: Plan, a: At, whole: usize) -> usize
+    requires { ⌜ Spaced p a ⌝ }
+    ensures { λ r. ⌜ Skipped p a whole r ⌝ }
+{
+    let room = a.end - a.q;
+    let need = pick(
+        p.packing == 0,
+        p.datapacket,
+        pick(p.packing == 1, whole, p.size),
+    );
+    pick(need <= room, 0, room)
+}
+
+// Where a message with a packet of n bytes comes to stand.
+pub fn place(p: Plan, a: At, n: usize) -> Spot
+    requires { ⌜ Placing p a n ⌝ }
+    ensures { λ r. ⌜ Placed p a n r ⌝ }
+{
+    let whole = whole(p, n);
+    let skip = skipped(p, a, whole);
+    let from = a.q + skip;
+    Spot {
+        skip,
+        from,
+        whole,
+        next: on(p, a, from + whole),
+    }
+}
+
+fn wide(x: u32) -> usize
+    ensures { λ r. ⌜ r ≡ x ⌝ }
+{
+    x as usize
+}
+
+// Whether a length is 0, over X, or, in single and multiple packing, does not fit one data packet.
+fn unfit(p: Plan, n: usize) -> bool
+    requires { ⌜ Ready p ⌝ }
+    ensures { λ r. ⌜ Unfit p n r ⌝ }
+{
+    if n == 0 {
+        return true;
+    }
+    if p.longest < n {
+        return true;
+    }
+    if p.packing < 2 {
+        return p.datapacket < whole(p, n);
+    }
+    false
+}
+
+// Goes through the lengths and writes nothing.
+pub fn size(p: Plan, lengths: &[u32]) -> Sized
+    requires { ⌜ Sizable p (now lengths) ⌝ }
+    ensures { λ r. ⌜ SizedAs p (now (lengths .entry)) r ⌝ }
+{
+    let mut a = At {
+        q: 0,
+        end: p.datapacket,
+    };
+    let mut i: usize = 0;
+    while i < lengths.len() {
+        let n = wide(lengths[i]);
+        if unfit(p, n) {
+            return Sized::Misfit(i);
+        }
+        let m = place(p, a, n);
+        a = m.next;
+        i += 1;
+    }
+    Sized::Fits(a)
+}
+
+// Where a transfer ends whose messages end at a place: there, or filled up, where its data packet does.
+pub fn ended(p: Plan, a: At, full: bool) -> usize
+    requires { ⌜ Spaced p a ⌝ }
+    ensures { λ r. ⌜ Ended p a full r ⌝ }
+{
+    pick(both(full, a.end - a.q < p.datapacket), a.end, a.q)
+}
