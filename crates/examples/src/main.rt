@@ -223,9 +223,48 @@ fn usb_refusal_examples() {
     );
 }
 
+// R with a header and an alignment of choice.
+fn r(header: u32, align: u32) -> flexray::Setting {
+    flexray::Setting {
+        node: 7,
+        direction: 0,
+        ceiling: 32,
+        header,
+        align,
+    }
+}
+
+fn flexray_reads(text: &[u8], s: flexray::Setting, t: &[u8]) {
+    let mut rows = [0u32; 20];
+    say(text);
+    let answer = flexray_reader::read(s, t, Counter::fresh(), &mut rows);
+    read_told(answer, &rows);
+}
+
+fn flexray_writes(text: &[u8], s: flexray::Setting, packets: &[u8], lengths: &[u32]) {
+    let mut out = [0u8; 32];
+    say(text);
+    let answer = flexray_writer::write(s, packets, lengths, 0, 0xEE, &mut out);
+    write_told(answer, &out);
+}
+
+fn flexray_examples() {
+    flexray_writes(b"R writes [FF]:", r(5, 2), &[0xFF], &[1]);
+    flexray_writes(
+        b"R writes [01 02], [FF]:",
+        r(5, 2),
+        &[0x01, 0x02, 0xFF],
+        &[2, 1],
+    );
+    flexray_reads(b"R reads 07 01 FF EE:", r(5, 2), &[0x07, 0x01, 0xFF, 0xEE]);
+    flexray_writes(b"header 0 writes [FF 00]:", r(0, 1), &[0xFF, 0x00], &[2]);
+    flexray_reads(b"header 0 reads it:", r(0, 1), &[0x07, 0xFF, 0x00, 0xEE]);
+}
+
 fn main() {
     usb_writer_examples();
     usb_counter_examples();
     usb_reader_examples();
     usb_refusal_examples();
+    flexray_examples();
 }

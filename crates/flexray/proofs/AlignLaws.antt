@@ -1,11 +1,13 @@
--- A header goes with one alignment or with two, of which the least is not 0: one computed test over the whole table.
-use Prim.Native.Nat.{ℕ}
+-- Alignment. A header goes with one alignment or with two, of which the least is not 0: one computed test over the whole table.
+use Prim.Native.Nat.{ℕ, _+_, _%_, _<_, _≤_}
+use native.Mathlib.Omega.{arith}
 use mathlib.Core.Path.{_≡_, refl}
 use mathlib.Core.Bool.{Bool, true, false, _&&_, _||_, or-false, or-self}
 use mathlib.Core.List.{List, [], _∷_}
 use lib.Dec.{ltb, eqb}
 use Rattle.layout.proofs.TableLaws.{all-given}
-use Rattle.flexray.specs.Setting.{headers, header, among}
+use Rattle.layout.proofs.MultipleLaws.{pad-less, pad-whole}
+use Rattle.flexray.specs.Setting.{headers, header, among, start}
 use Rattle.flexray.specs.Table.{first, last}
 
 abbrev few : List ℕ → Bool
@@ -25,3 +27,12 @@ pub among-header : (n a : ℕ)
     ≡ (ltb 0 (first (header n .aligns)) && (eqb a (first (header n .aligns)) || eqb a (last (header n .aligns))))
 unfolding headers
 among-header n a = among-few a (header n .aligns) (all-given (λ h. few (h .aligns)) (header 9) headers n refl refl)
+
+-- a further packet starts at a multiple of the alignment, and at the first that leaves a byte between
+pub start-whole : (a e : ℕ) → 0 < a → start a e % a ≡ 0
+unfolding start
+start-whole a e h = pad-whole a (e + 1) h
+
+pub start-near : (a e : ℕ) → 0 < a → start a e ≤ e + a
+unfolding start
+start-near a e h = omega (arith, pad-less a (e + 1) h)

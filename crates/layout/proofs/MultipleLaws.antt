@@ -2,8 +2,12 @@
 use Prim.Native.Nat.{ℕ, suc, _+_, _*_, _-_, _/_, _%_, _<_, _≤_}
 use native.Mathlib.Omega.{arith}
 use native.Mathlib.Nat.{mod-lt, add-mod-mod, div-add-mod', mul-mod-left, lt-of-mul-lt-mul-right}
-use mathlib.Core.Path.{_≡_, ap}
-use Rattle.layout.specs.Multiple.{pad}
+use mathlib.Core.Path.{_≡_, refl, ap}
+use mathlib.Core.Logic.{inl, inr}
+use mathlib.Core.Bool.{Bool, true, false, _||_}
+use lib.Dec.{eqb}
+use borrow.Author.Tests.{eqb-true}
+use Rattle.layout.specs.Multiple.{pad, Aligned, alignment}
 
 pub pad-less : (a n : ℕ) → 0 < a → pad a n < a
 unfolding pad
@@ -28,3 +32,13 @@ pad-only a n e h l p =
     let x : (n + e) / a ≡ (n + pad a n) / a = omega (arith, near a n e (pad a n) h lf p q, near a n (pad a n) e h l q p) in
     let y : (n + e) / a * a ≡ (n + pad a n) / a * a = ap (λ k. k * a) x in
     omega (arith, div-add-mod' (n + e) a, div-add-mod' (n + pad a n) a)
+
+pub alignment-is : (a : ℕ) → alignment a ≡ true → Aligned a
+alignment-is a = at (eqb a 1) (eqb a 2) (eqb a 4) (eqb a 8) refl refl refl refl
+  where
+    at : (b c d e : Bool) → eqb a 1 ≡ b → eqb a 2 ≡ c → eqb a 4 ≡ d → eqb a 8 ≡ e → b || c || d || e ≡ true → Aligned a
+    at true c d e gb gc gd ge h = inl (eqb-true a 1 gb)
+    at false true d e gb gc gd ge h = inr (inl (eqb-true a 2 gc))
+    at false false true e gb gc gd ge h = inr (inr (inl (eqb-true a 4 gd)))
+    at false false false true gb gc gd ge h = inr (inr (inr (eqb-true a 8 ge)))
+    at false false false false gb gc gd ge h = let z : _≡_ {A = ℕ} 0 1 = cc in absurd (omega arith)

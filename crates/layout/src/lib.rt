@@ -33,6 +33,13 @@ fn wide(x: u8) -> usize
     x as usize
 }
 
+// A number of 32 bits as a length or an index.
+pub fn wide32(n: u32) -> usize
+    ensures { λ r. ⌜ (r ≡ n) × (r < 4294967296) ⌝ }
+{
+    n as usize
+}
+
 // The number in a field of at most two bytes; 0 where it has none.
 pub fn field(t: &[u8], at: usize, width: usize) -> usize
     requires { ⌜ Within (now t) at width ⌝ }

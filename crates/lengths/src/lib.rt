@@ -8,13 +8,8 @@ ghost use Rattle.packet.specs.Limit.{mostBytes, Short};
 ghost use Rattle.packet.specs.Packets.{mismatched as mismatchedOf};
 ghost use Rattle.lengths.specs.Lengths.{Few, Sum};
 use layout::either;
+use layout::wide32;
 use packet::Writing;
-
-fn wide(x: u32) -> usize
-    ensures { λ r. ⌜ (r ≡ x) × (r < 4294967296) ⌝ }
-{
-    x as usize
-}
 
 // The sum of at most 4,096 lengths.
 fn sum(lengths: &[u32]) -> usize
@@ -24,7 +19,7 @@ fn sum(lengths: &[u32]) -> usize
     let mut total: usize = 0;
     let mut i: usize = 0;
     while i < lengths.len() {
-        total += wide(lengths[i]);
+        total += wide32(lengths[i]);
         i += 1;
     }
     total

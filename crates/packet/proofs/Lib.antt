@@ -5,4 +5,6 @@ pub mod PartLaws
 pub mod ReaderLaws
 pub mod RowLaws
 pub mod SeenLaws
+pub mod TakeLaws
+pub mod WeighLaws
 pub mod WriterLaws

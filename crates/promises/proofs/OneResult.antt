@@ -18,16 +18,20 @@ use Rattle.packet.specs.Part.{partOf, checkOf}
 use Rattle.packet.proofs.AnswerLaws.{one-result}
 use Rattle.lent.specs.declared.Told.{Told}
 use Rattle.lent.specs.Told.{Tells}
+use Rattle.lent.proofs.ThinCounter.{one-telling}
 use Rattle.usb.specs.declared.Setting as UsbSetting
 use Rattle.usb.specs.Setting as U
 use Rattle.usb.specs.Reading as UsbReading
 use Rattle.usb.specs.Writing as UsbWriting
-use Rattle.usb_plan.specs.Plan.{PlannedAs}
-use Rattle.usb_plan.proofs.PlanLaws.{one-plan}
+use Rattle.usb_plan.specs.Plan as UsbPlan
+use Rattle.usb_plan.proofs.PlanLaws as UsbPlans
 use Rattle.flexray.specs.declared.Setting as FlexRaySetting
 use Rattle.flexray.specs.Setting as F
+use Rattle.flexray.specs.Table.{entry}
 use Rattle.flexray.specs.Reading as FlexRayReading
 use Rattle.flexray.specs.Writing as FlexRayWriting
+use Rattle.flexray_plan.specs.Plan as FlexRayPlan
+use Rattle.flexray_plan.proofs.PlanLaws as FlexRayPlans
 
 -- any two results that a contract allows are equal
 abbrev pub One : {A : Type 0} → (A → Type 0) → Type 0
@@ -59,7 +63,12 @@ flexray-write s bs ns c fill out r u left past = one-result
 -- with the state lent: what is told, the state and the table
 pub usb-read-lent : (s : UsbSetting.Setting) (t : List ℕ) (c : Counter) (rows : List ℕ) (r u : Told) (d e : Counter) (left past : List ℕ)
     → Tells (UsbReading.readOf s t c rows) c r d left → Tells (UsbReading.readOf s t c rows) c u e past → (r ≡ u) × (d ≡ e) × (left ≡ past)
-usb-read-lent s t c rows r u d e left past g h = (g .told ∙ sym (h .told), g .state ∙ sym (h .state), g .lent ∙ sym (h .lent))
+usb-read-lent s t c rows r u d e left past = one-telling
+
+pub flexray-read-lent : (s : FlexRaySetting.Setting) (t : List ℕ) (c : Counter) (rows : List ℕ) (r u : Told) (d e : Counter) (left past : List ℕ)
+    → Tells (FlexRayReading.readOf s t c rows) c r d left → Tells (FlexRayReading.readOf s t c rows) c u e past
+    → (r ≡ u) × (d ≡ e) × (left ≡ past)
+flexray-read-lent s t c rows r u d e left past = one-telling
 
 ---- Settings -------------------------------------------------------------------------------------------------------------------
 
@@ -67,14 +76,14 @@ pub usb-shape : (header : ℕ) → One (λ r. r ≡ shape (U.header header))
 usb-shape header = same (shape (U.header header))
 
 -- the plan of a setting, or that it is not sound
-pub usb-plan-for : (s : UsbSetting.Setting) → One (PlannedAs s)
-usb-plan-for = one-plan
+pub usb-plan-for : (s : UsbSetting.Setting) → One (UsbPlan.PlannedAs s)
+usb-plan-for = UsbPlans.one-plan
 
-pub flexray-shape : (header : ℕ) → One (λ r. r ≡ shape (F.header header .fields))
-flexray-shape header = same (shape (F.header header .fields))
+pub flexray-listed : (header : ℕ) → One (λ r. r ≡ entry (F.header header))
+flexray-listed header = same (entry (F.header header))
 
-pub flexray-sound : (s : FlexRaySetting.Setting) → One (λ r. r ≡ F.sound s)
-flexray-sound s = same (F.sound s)
+pub flexray-plan-for : (s : FlexRaySetting.Setting) → One (FlexRayPlan.PlannedAs s)
+flexray-plan-for = FlexRayPlans.one-plan
 
 ---- Packets --------------------------------------------------------------------------------------------------------------------
 

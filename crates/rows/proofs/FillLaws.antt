@@ -17,7 +17,7 @@ use Rattle.rows.specs.Fill.{Filled, Filled.filled, filling, Room, Fillin
 use Rattle.rows.specs.Rows.{Put}
 
 -- a table has room for one row, and then for the others
-room-before : (n i : ℕ) (m : Msg) (o : Out Msg) → Room n i (before (m ∷ []) o) → (i + 5 ≤ n) × Room n (i + 5) o
+pub room-before : (n i : ℕ) (m : Msg) (o : Out Msg) → Room n i (before (m ∷ []) o) → (i + 5 ≤ n) × Room n (i + 5) o
 room-before n i m (list ms) h = (omega arith, omega arith)
 room-before n i m (refused a q) h = absurd h
 

@@ -2,4 +2,5 @@ pub mod AnswerLaws
 pub mod CounterLaws
 pub mod CountLaws
 pub mod FillLaws
+pub mod LoopLaws
 pub mod RowLaws

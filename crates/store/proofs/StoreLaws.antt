@@ -4,7 +4,7 @@ use native.Mathlib.Omega.{arith}
 use native.Mathlib.Nat.{add-zero, zero-add, add-suc, suc-add}
 use native.Mathlib.Numerals.{add-one}
 use mathlib.Core.Path.{_≡_, refl, sym, ap, _∙_}
-use mathlib.Core.List.{List, [], _∷_, _++_, append-nil}
+use mathlib.Core.List.{List, [], _∷_, _++_, append-nil, append-assoc}
 use lib.ListN.{length, set, take, drop, replicate, length-set, length-drop, take-append-drop, drop-of-length-le}
 use lib.Seq.{sets, take-all, set-set, set-comm, take-set-le, drop-set-add}
 
@@ -57,6 +57,10 @@ lent-rest xs vs a e =
 pub sets-append : (vs ws xs : List ℕ) (i : ℕ) → sets xs i (vs ++ ws) ≡ sets (sets xs i vs) (i + length vs) ws
 sets-append [] ws xs i = rw add-zero
 sets-append (v ∷ vs) ws xs i = sets-append vs ws (set xs i v) (suc i) ∙ rw (add-suc i (length vs), ← suc-add i (length vs))
+
+-- two runs, and what is put behind them
+pub sets-behind : (r m v xs : List ℕ) (q : ℕ) {k : ℕ} → q + length (r ++ m) ≡ k → sets xs q (r ++ (m ++ v)) ≡ sets (sets xs q (r ++ m)) k v
+sets-behind r m v xs q l = ap (sets xs q) (sym (append-assoc r m v)) ∙ sets-append (r ++ m) v xs q ∙ ap (λ i. sets (sets xs q (r ++ m)) i v) l
 
 ---- A run within a run ---------------------------------------------------------------------------------------------------------
 

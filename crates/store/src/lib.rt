@@ -7,6 +7,7 @@ ghost use lib.Seq.{sets};
 ghost use Rattle.store.specs.Store.{Inside, Headed, headed};
 use layout::Shape;
 use layout::put_field;
+use layout::wide32;
 
 // Puts n free bytes from a place on.
 pub fn fill(out: &mut [u8], at: usize, n: usize, free: u8)
@@ -42,12 +43,6 @@ pub fn put_packet(out: &mut [u8], at: usize, packet: &[u8], tail: usize, free: u
     fill(out, at + packet.len(), tail, free);
 }
 
-fn wide(x: u32) -> usize
-    ensures { λ r. ⌜ r ≡ x ⌝ }
-{
-    x as usize
-}
-
 // Puts a header at the front: LEN and CTR, and the free byte where it has neither.
 pub fn put_header(out: &mut [u8], k: Shape, len: usize, ctr: u32, free: u8)
     requires { ⌜ Headed (now out) k ⌝ }
@@ -55,5 +50,5 @@ pub fn put_header(out: &mut [u8], k: Shape, len: usize, ctr: u32, free: u8)
 {
     fill(out, 0, k.size, free);
     put_field(out, k.lenat, k.lenwidth, len);
-    put_field(out, k.ctrat, k.ctrwidth, wide(ctr));
+    put_field(out, k.ctrat, k.ctrwidth, wide32(ctr));
 }

@@ -1,23 +1,22 @@
 -- What a turn keeps of the transfer that is written: what is still to be written comes to the same whole.
-use Prim.Native.Nat.{ℕ, suc, _+_, _-_, _<_, _≤_}
+use Prim.Native.Nat.{ℕ, _+_, _-_, _<_, _≤_}
 use native.Mathlib.Omega.{arith}
 use mathlib.Core.Path.{_≡_, refl, sym, ap, _∙_}
-use mathlib.Core.Bool.{Bool, true, false, cond, _||_}
-use mathlib.Core.List.{List, [], _∷_, _++_, append-assoc}
-use lib.ListN.{length, getD, take, drop, drop-of-length-le, length-append}
-use lib.Seq.{sets, length-sets, drop-drop}
-use lib.Dec.{eqb, ltb}
-use borrow.Author.Needs.{needs}
+use mathlib.Core.Bool.{Bool, true, false}
+use mathlib.Core.List.{List, [], _∷_, _++_}
+use lib.ListN.{length, getD, take, drop, length-append}
+use lib.Seq.{sets, length-sets}
+use lib.Dec.{ltb}
 use borrow.Author.Tests.{ltb-false}
-use Rattle.layout.proofs.PartLaws.{drop-next, long}
 use Rattle.layout.proofs.TestLaws.{or-left, or-right}
 use Rattle.packet.specs.declared.At.{At}
 use Rattle.packet.specs.Counter.{holds, next, later}
 use Rattle.packet.specs.Limit.{mostBytes}
-use Rattle.packet.specs.Packets.{sum, packets, first}
+use Rattle.packet.specs.Packets.{packets}
 use Rattle.packet.proofs.CounterLaws.{held, next-holds}
+use Rattle.packet.proofs.TakeLaws.{here, none-left, Taking, taking, taking-next, packet-long, packets-on, Clear, clear-head}
 use Rattle.rows.specs.Counters.{Said, After}
-use Rattle.store.proofs.StoreLaws.{sets-append}
+use Rattle.store.proofs.StoreLaws.{sets-behind}
 use Rattle.usb.specs.declared.Setting.{Setting}
 use Rattle.usb.specs.Setting.{W, whole, sound}
 use Rattle.usb.specs.Writing.{restBytes, messageBytes, skipped, write, misfit}
@@ -32,10 +31,6 @@ use Rattle.usb_put.specs.Put.{Standing, Writable, Wrote}
 
 ---- Lengths that fit -----------------------------------------------------------------------------------------------------------
 
-fit-head : (b : Bool) (k l : ℕ) → cond b 0 (suc k) ≡ suc l → (b ≡ false) × (k ≡ l)
-fit-head true k l e = absurd (omega arith)
-fit-head false k l e = (refl, omega arith)
-
 fit-small : {p : Plan} → Ready p → (n : ℕ) → misfit (setting p) n ≡ false → n < 65536
 unfolding misfit
 fit-small {p} k n e =
@@ -47,10 +42,6 @@ reach-past : (s : Setting) (q : ℕ) (ns : List ℕ) → q ≤ reach s q ns
 unfolding reach
 reach-past s q [] = omega arith
 reach-past s q (n ∷ ns) = omega (arith, reach-past s (q + skipped s q n + whole s n) ns)
-
--- the part of the joined bytes that was handed on
-pub part-is : (bs : List ℕ) (from n : ℕ) → take (from + n - from) (drop from bs) ≡ take n (drop from bs)
-part-is bs from n = let e : from + n - from ≡ n = omega arith in rw e
 
 -- one message is written, and then the others
 write-one : (s : Setting) → sound s ≡ true → (free : ℕ) (full : Bool) (q c : ℕ) (out b : List ℕ) (ps : List (List ℕ))
@@ -66,8 +57,7 @@ write-one s ok free full q c out b ps =
     let v : List ℕ = write s free full k (next (W s) c) ps in
     let lr : length r ≡ skipped s q (length b) = rest-length s (good s ok) free (skipped s q (length b)) in
     let lm : length m ≡ whole s (length b) = message-length s (good s ok) free c b in
-    let l : q + length (r ++ m) ≡ k = omega (arith, length-append r m) in
-    ap (sets out q) (sym (append-assoc r m v)) ∙ sets-append (r ++ m) v out q ∙ ap (λ i. sets (sets out q (r ++ m)) i v) l
+    sets-behind r m v out q (omega (arith, length-append r m))
 
 ---- The loop -------------------------------------------------------------------------------------------------------------------
 
@@ -75,10 +65,9 @@ write-one s ok free full q c out b ps =
 pub record Writing (p : Plan) (bs ns : List ℕ) (c₀ free : ℕ) (old out : List ℕ) (a : At) (c from i : ℕ) : Type 0 where
   pub ready : Ready p
   pub place : Place p a
-  pub few : i ≤ length ns
   pub held : holds (p .ctrwidth) c ≡ true
-  pub left : from + sum (drop i ns) ≡ length bs
-  pub fit : first (misfit (setting p)) (drop i ns) ≡ length (drop i ns)
+  pub taking : Taking bs ns from i
+  pub fit : Clear (misfit (setting p)) (drop i ns)
   pub ends : reach (setting p) 0 ns ≡ reach (setting p) (a .q) (drop i ns)
   pub room : reach (setting p) 0 ns ≤ length out
   pub most : reach (setting p) 0 ns ≤ mostBytes
@@ -93,10 +82,9 @@ writing h free =
     record {
       ready = h .ready;
       place = first-place (h .ready);
-      few = omega arith;
       held = h .held;
-      left = omega (arith, h .sum);
-      fit = h .fit;
+      taking = taking (h .sum);
+      fit = record { none = h .fit };
       ends = refl;
       room = h .room;
       most = h .most;
@@ -115,24 +103,11 @@ module _ {p : Plan} {bs ns : List ℕ} {c₀ free : ℕ} {old out : List ℕ} {a
   near = omega (arith, reach-past (setting p) (a .q) (drop i ns), w .ends, w .most)
 
   module _ (l : i < length ns) {n : ℕ} (e : n ≡ getD ns i 0) where
-    here : drop i ns ≡ n ∷ drop (i + 1) ns
-    here = rw e (drop-next ns i l)
-
-    fits : (misfit (setting p) n ≡ false) × (first (misfit (setting p)) (drop (i + 1) ns) ≡ length (drop (i + 1) ns))
-    unfolding first
-    fits =
-        let g = rw here at (w .fit) in
-        fit-head (misfit (setting p) n) (first (misfit (setting p)) (drop (i + 1) ns)) (length (drop (i + 1) ns)) g
+    fits : (misfit (setting p) n ≡ false) × Clear (misfit (setting p)) (drop (i + 1) ns)
+    fits = clear-head (w .fit) (here ns i l e)
 
     pub small : n < 65536
     small = fit-small (w .ready) n (fits .0)
-
-    -- its packet lies inside the joined bytes
-    pub inside : from + n ≤ length bs
-    inside = let g = rw here at (w .left) in omega arith
-
-    packet-long : length (take n (drop from bs)) ≡ n
-    packet-long = long bs from n inside
 
     -- where it comes to stand, and behind it
     module _ {m : Spot} (d : Placed p a n m) where
@@ -141,12 +116,7 @@ module _ {p : Plan} {bs ns : List ℕ} {c₀ free : ℕ} {old out : List ℕ} {a
 
       reach-on : reach (setting p) 0 ns ≡ reach (setting p) (m .next .q) (drop (i + 1) ns)
       unfolding reach
-      reach-on = w .ends ∙ rw (here, next-is)
-
-      packets-on : {b : List ℕ} {to : ℕ} → b ≡ take n (drop from bs) → to ≡ from + n
-          → packets (drop i ns) (drop from bs) ≡ b ∷ packets (drop (i + 1) ns) (drop to bs)
-      unfolding packets
-      packets-on f t = rw (here, f, t, ← drop-drop n from bs)
+      reach-on = w .ends ∙ rw (here ns i l e, next-is)
 
       written : (full : Bool) (b : List ℕ) (ps : List (List ℕ)) → length b ≡ n → {new : List ℕ} {r : ℕ}
           → new ≡ sets out (a .q) (restBytes (setting p) free (m .skip) ++ messageBytes (setting p) free c b) → After (p .ctrwidth) c r
@@ -158,11 +128,11 @@ module _ {p : Plan} {bs ns : List ℕ} {c₀ free : ℕ} {old out : List ℕ} {a
 
       pub standing : {b : List ℕ} → b ≡ take n (drop from bs) → Standing p out a m b
       standing f =
-          let z : length (take n (drop from bs)) ≡ n = packet-long in
+          let z = packet-long (w .taking) l e f in
           record {
             ready = w .ready;
-            small = rw (f, z) small;
-            placed = rw (f, z) d;
+            small = rw z small;
+            placed = rw z d;
             room = omega (arith, d .next, reach-past (setting p) (m .next .q) (drop (i + 1) ns), reach-on, w .room);
           }
 
@@ -171,28 +141,26 @@ module _ {p : Plan} {bs ns : List ℕ} {c₀ free : ℕ} {old out : List ℕ} {a
           → Writing p bs ns c₀ free old new (m .next) r to (i + 1)
       unfolding later
       writing-next {b} {new} {r} {to} f t x u =
-          let z : length b ≡ n = rw f packet-long in
-          let g = rw here at (w .left) in
+          let z = packet-long (w .taking) l e f in
           let put : List ℕ = restBytes (setting p) free (m .skip) ++ messageBytes (setting p) free c b in
           let o : length new ≡ length out = ap length x ∙ length-sets out (a .q) put in
           record {
             ready = w .ready;
             place = d .place;
-            few = omega arith;
             held = rw (u .is) (next-holds (p .ctrwidth) c (w .held));
-            left = omega arith;
+            taking = taking-next (w .taking) l e t;
             fit = fits .1;
             ends = reach-on;
             room = omega (arith, w .room);
             most = w .most;
-            bytes = λ full. w .bytes full ∙ rw (packets-on f t) (written full b (packets (drop (i + 1) ns) (drop to bs)) z x u);
-            counter = w .counter ∙ rw (here, u .is);
+            bytes = λ full. w .bytes full ∙ rw (packets-on (w .taking) l e t f) (written full b (packets (drop (i + 1) ns) (drop to bs)) z x u);
+            counter = w .counter ∙ rw (here ns i l e, u .is);
             long = o ∙ w .long;
           }
 
   pub writing-done : length ns ≤ i → Wrote p bs ns c₀ free old out c
   unfolding reach later packets
   writing-done l =
-      let none : drop i ns ≡ [] = drop-of-length-le ns {i = i} l in
+      let none = none-left ns i l in
       let e : reach (setting p) 0 ns ≡ a .q = w .ends ∙ rw none in
       record { bytes = λ full. w .bytes full ∙ rw (e, none); counter = sym (w .counter ∙ rw none); long = w .long }

@@ -11,6 +11,7 @@ ghost use Rattle.usb_put.specs.Put.{Resting, ShapeOf, Fitting, Standing,
 use layout::Shape;
 use layout::either;
 use layout::put_field;
+use layout::wide32;
 use packet::At;
 use rows::after;
 use store::fill;
@@ -76,12 +77,6 @@ fn put_one(p: Plan, out: &mut [u8], a: At, m: Spot, packet: &[u8], ctr: u32, fre
     put_message(p, &mut out[at..], packet, ctr, free);
 }
 
-fn wide(x: u32) -> usize
-    ensures { λ r. ⌜ r ≡ x ⌝ }
-{
-    x as usize
-}
-
 // Writes all messages from the front on, and gives the counter behind them.
 pub fn put_all(
     p: Plan,
@@ -102,7 +97,7 @@ pub fn put_all(
     let mut from: usize = 0;
     let mut i: usize = 0;
     while i < lengths.len() {
-        let n = wide(lengths[i]);
+        let n = wide32(lengths[i]);
         let to = from + n;
         let m = place(p, a, n);
         put_one(p, out, a, m, &packets[from..to], c, free);

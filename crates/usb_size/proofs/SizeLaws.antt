@@ -4,13 +4,12 @@ use native.Mathlib.Omega.{arith}
 use native.Mathlib.Nat.{mod-lt}
 use mathlib.Core.Path.{_≡_, refl, sym, _∙_}
 use mathlib.Core.Bool.{Bool, true, false, cond, _&&_}
-use mathlib.Core.List.{List, [], _∷_}
-use lib.ListN.{length, getD, drop, drop-of-length-le}
+use mathlib.Core.List.{List}
+use lib.ListN.{length, getD, drop}
 use lib.Dec.{leb, ltb, eqb}
 use borrow.Author.Tests.{le-leb, lt-leb, leb-true, leb-false, lt-ltb, le-ltb, ne-eqb}
-use Rattle.layout.proofs.PartLaws.{drop-next}
 use Rattle.packet.specs.declared.At.{At}
-use Rattle.packet.specs.Packets.{first}
+use Rattle.packet.proofs.TakeLaws.{here, none-left, Passing, passing, passing-next, passes-here, passes-none}
 use Rattle.usb.specs.declared.Setting.{Setting}
 use Rattle.usb.specs.Setting.{H, whole}
 use Rattle.usb.specs.Writing.{permits, skipped, misfit}
@@ -109,45 +108,37 @@ module _ {p : Plan} {n : ℕ} where
 -- the lengths before i fit, and their messages end at a
 pub record Sizing (p : Plan) (ns : List ℕ) (a : At) (i : ℕ) : Type 0 where
   pub few : i ≤ length ns
-  pub fit : first (misfit (setting p)) ns ≡ i + first (misfit (setting p)) (drop i ns)
+  pub fit : Passing (misfit (setting p)) ns (drop i ns) i
   pub reach : reach (setting p) 0 ns ≡ reach (setting p) (a .q) (drop i ns)
   pub place : Place p a
   pub near : a .q ≤ i * 66571
 
 pub sizing : {p : Plan} → Ready p → (ns : List ℕ) → Sizing p ns (record { q = 0; end = p .datapacket }) 0
-sizing k ns = record { few = omega arith; fit = omega arith; reach = refl; place = first-place k; near = omega arith }
+sizing k ns = record { few = omega arith; fit = passing _ refl; reach = refl; place = first-place k; near = omega arith }
 
 module _ {p : Plan} {ns : List ℕ} {a : At} {i : ℕ} (z : Sizing p ns a i) where
   module _ (l : i < length ns) {n : ℕ} (e : n ≡ getD ns i 0) where
-    here : drop i ns ≡ n ∷ drop (i + 1) ns
-    here = rw e (drop-next ns i l)
-
     pub size-next : misfit (setting p) n ≡ false → {m : Spot} → Placed p a n m → Sizing p ns (m .next) (i + 1)
-    unfolding first reach
+    unfolding reach
     size-next f {m} d =
         let q : m .next .q ≡ a .q + skipped (setting p) (a .q) n + whole (setting p) n =
         d .next ∙ rw (d .from, d .skip, d .whole) in
-        let g : first (misfit (setting p)) ns ≡ i + suc (first (misfit (setting p)) (drop (i + 1) ns)) = z .fit ∙ rw (here, f) in
         record {
           few = omega arith;
-          fit = omega arith;
-          reach = z .reach ∙ rw (here, q);
+          fit = passing-next (z .fit) (here ns i l e) f;
+          reach = z .reach ∙ rw (here ns i l e, q);
           place = d .place;
           near = omega (arith, d .near, z .near);
         }
 
     pub size-misfit : misfit (setting p) n ≡ true → MisfitAt p ns i
-    unfolding first
-    size-misfit f =
-        let g : first (misfit (setting p)) ns ≡ i + 0 = z .fit ∙ rw (here, f) in
-        record { is = omega arith; inside = l }
+    size-misfit f = record { is = passes-here (z .fit) (here ns i l e) f; inside = l }
 
   pub size-done : length ns ≤ i → FitsTo p ns a
-  unfolding first reach
+  unfolding reach
   size-done l =
-      let none : drop i ns ≡ [] = drop-of-length-le ns {i = i} l in
-      let g : first (misfit (setting p)) ns ≡ i + 0 = z .fit ∙ rw none in
-      record { fit = omega (arith, z .few); reach = sym (z .reach ∙ rw none); place = z .place }
+      let none = none-left ns i l in
+      record { fit = omega (arith, passes-none (z .fit) none, z .few); reach = sym (z .reach ∙ rw none); place = z .place }
 
 ---- The end --------------------------------------------------------------------------------------------------------------------
 

@@ -4,6 +4,7 @@ ghost use Rattle.usb_plan.specs.Plan.{Ready};
 ghost use Rattle.usb_size.specs.Size.{Spaced, Skipped, Placing, Placed, Unfit, Sizable, SizedAs, Ended};
 use layout::both;
 use layout::pick;
+use layout::wide32;
 use packet::At;
 use usb_plan::Plan;
 use usb_plan::on;
@@ -53,12 +54,6 @@ pub fn place(p: Plan, a: At, n: usize) -> Spot
     }
 }
 
-fn wide(x: u32) -> usize
-    ensures { λ r. ⌜ r ≡ x ⌝ }
-{
-    x as usize
-}
-
 // Whether a length is 0, over X, or, in single and multiple packing, does not fit one data packet.
 fn unfit(p: Plan, n: usize) -> bool
     requires { ⌜ Ready p ⌝ }
@@ -87,7 +82,7 @@ pub fn size(p: Plan, lengths: &[u32]) -> Sized
     };
     let mut i: usize = 0;
     while i < lengths.len() {
-        let n = wide(lengths[i]);
+        let n = wide32(lengths[i]);
         if unfit(p, n) {
             return Sized::Misfit(i);
         }

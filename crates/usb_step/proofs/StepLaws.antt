@@ -17,6 +17,7 @@ use Rattle.packet.specs.declared.Found.{Found}
 use Rattle.packet.specs.declared.Seen.{Seen}
 use Rattle.packet.specs.declared.Seen.the-variants as S
 use Rattle.packet.specs.Seen.{asStep}
+use Rattle.rows.specs.Ahead.{Crossed, Passed}
 use Rattle.usb.specs.declared.Setting.{Setting}
 use Rattle.usb.specs.declared.Verdict.{Verdict}
 use Rattle.usb.specs.declared.Verdict.the-variants.{Stop, TakeRest, TakeMessage, Refuse}
@@ -28,8 +29,8 @@ use Rattle.usb.proofs.LaidLaws.{forward}
 use Rattle.usb_plan.specs.declared.Plan.{Plan}
 use Rattle.usb_plan.specs.Plan.{setting, Ready, Onward, Moved}
 use Rattle.usb_step.specs.declared.Sizes.{Sizes}
-use Rattle.usb_step.specs.Place.{tested}
-use Rattle.usb_step.specs.Step.{Len, Measured, Fitting, FoundAt, Crossed, Passed, Saw}
+use Rattle.usb_step.specs.Place.{Standing, tested}
+use Rattle.usb_step.specs.Step.{Len, Measured, Fitting, FoundAt, Saw}
 use Rattle.usb_step.proofs.PlaceLaws.{onward, stands}
 
 -- a place is inside a data packet where less than a whole one is left of it
@@ -108,10 +109,11 @@ module _ {p : Plan} {t : List ℕ} {a : At} {m : Sizes} (d : Measured p t a m) w
         let (l, u) = goes is e in
         let k : m .rest ≡ a .q + space (setting p) t (a .q) = d .rest ∙ rw (d .space) in
         let i : b ≡ stand (setting p) (a .q + space (setting p) t (a .q)) = n .is ∙ ap (stand (setting p)) k in
-        let f : Passed p t a b =
+        let f : Passed (ahead (setting p) t) (Standing p t) t a b =
         record {
           told = ahead-is is e ∙ sym (rw i);
           on = omega (arith, k, n .there);
+          within = omega (arith, k, n .there);
           next = stands (d .standing) (omega (arith, k)) n;
         } in
         record { is = sym (seen-is is e ∙ rw (← i)); ahead = f }
@@ -140,11 +142,14 @@ module _ {p : Plan} {t : List ℕ} {a : At} {m : Sizes} (d : Measured p t a m) w
         let (l, u) = goes is e in
         let k : m .next ≡ a .q + whole (setting p) (lenAt (setting p) t (a .q)) = d .next ∙ rw (d .whole, d .len) in
         let i : b ≡ stand (setting p) (a .q + whole (setting p) (lenAt (setting p) t (a .q))) = n .is ∙ ap (stand (setting p)) k in
-        let g : Crossed p t a f b =
+        let g : Crossed (ahead (setting p) t) (Standing p t) t (p .ctrwidth) a f b =
         record {
           told = ahead-is is e ∙ sym (rw (i, h .is));
           on = omega (arith, k, n .there);
+          within = omega (arith, k, n .there);
           next = stands (d .standing) (omega (arith, k)) n;
+          small = d .standing .small;
+          narrow = d .standing .ready .ctr-narrow;
           inside = omega (arith, h .at, h .len, d .whole, d .standing .within, d .standing .ready .size);
           counter = h .counter;
         } in

@@ -1,15 +1,13 @@
 -- What the step asks and tells: what was measured and found at a place, and what is ahead behind it.
 use Prim.Native.Nat.{ℕ, _+_, _-_, _%_, _^_, _<_, _≤_}
 use mathlib.Core.Path.{_≡_}
-use mathlib.Core.List.{List, [], _∷_}
+use mathlib.Core.List.{List}
 use lib.ListN.{length}
 use Rattle.layout.specs.Field.{says, Name.CTR}
-use Rattle.layout.specs.Walk.{before, Out.list, Out.refused}
 use Rattle.packet.specs.declared.At.{At}
 use Rattle.packet.specs.declared.Found.{Found}
 use Rattle.packet.specs.declared.Seen.{Seen}
-use Rattle.packet.specs.declared.Seen.the-variants.{Nothing, Message, Rest, Refused}
-use Rattle.packet.specs.Seen.{message}
+use Rattle.rows.specs.Ahead.{Sees}
 use Rattle.usb.specs.Setting.{fields, H, whole}
 use Rattle.usb.specs.Reading.{space, lenAt, seen, ahead}
 use Rattle.usb_plan.specs.declared.Plan.{Plan}
@@ -58,26 +56,7 @@ pub record FoundAt (p : Plan) (t : List ℕ) (a : At) (m : Sizes) (f : Found) : 
 
 ---- What is ahead --------------------------------------------------------------------------------------------------------------
 
--- a message, and the place behind it
-pub record Crossed (p : Plan) (t : List ℕ) (a : At) (m : Found) (b : At) : Type 0 where
-  pub told : ahead (setting p) t (a .q) ≡ before (message t m ∷ []) (ahead (setting p) t (b .q))
-  pub on : a .q < b .q
-  pub next : Standing p t b
-  pub inside : m .at + m .len ≤ length t
-  pub counter : m .ctr < 256 ^ p .ctrwidth
-
-pub record Passed (p : Plan) (t : List ℕ) (a b : At) : Type 0 where
-  pub told : ahead (setting p) t (a .q) ≡ ahead (setting p) t (b .q)
-  pub on : a .q < b .q
-  pub next : Standing p t b
-
-abbrev pub Sees : Plan → List ℕ → At → Seen → Type 0
-Sees p t a Nothing = ahead (setting p) t (a .q) ≡ list []
-Sees p t a (Message m b) = Crossed p t a m b
-Sees p t a (Rest b) = Passed p t a b
-Sees p t a (Refused n q) = (ahead (setting p) t (a .q) ≡ refused n q) × (q ≤ length t)
-
 -- the step's answer is the definition's, and with it what a loop goes on by
 pub record Saw (p : Plan) (t : List ℕ) (a : At) (r : Seen) : Type 0 where
   pub is : r ≡ seen (setting p) t (a .q)
-  pub ahead : Sees p t a r
+  pub ahead : Sees (ahead (setting p) t) (Standing p t) t (p .ctrwidth) a r

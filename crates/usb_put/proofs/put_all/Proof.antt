@@ -1,10 +1,11 @@
--- What is left of the list, written from here on, comes to the whole transfer. In each answer w is the place behind `wide`, t the loop's test.
+-- What is left of the list, written from here on, comes to the whole transfer. In each answer w is the place behind `wide32`, t the loop's test.
 use Prim.Native.Nat.{_-_}
 use native.Mathlib.Omega.{arith}
 use mathlib.Core.Path.{refl}
 use lib.ListN.{length}
 use borrow.Author.Needs.{needs}
-use Rattle.usb_put.proofs.AllLaws.{Writing, writing, said, near, small, inside, part-is, standing, writing-next, writing-done}
+use Rattle.packet.proofs.TakeLaws.{inside, part-is}
+use Rattle.usb_put.proofs.AllLaws.{Writing, writing, said, near, small, standing, writing-next, writing-done}
 use Rattle.usb_put.proofs.put_all.Statement.{statement}
 use Rattle.usb_put.proofs.put_all.Tie as tie
 
@@ -20,21 +21,21 @@ begins c = let s = c .before .before .before in writing (s .pre) (s .args .free)
 to-fits : tie.Need-add-to Inv-loop μ-loop
 to-fits c =
     let t = c .before .before in
-    let h = inside (t .before .loop .inv) (t .loop-test .taken) (c .wide .ensures) in
+    let h = inside (t .before .loop .inv .taking) (t .loop-test .taken) (c .wide32 .ensures .0) in
     search needs
 
 places : tie.Need-place-requires Inv-loop μ-loop
 places c κs =
     let t = c .before .before in
     let q = near (t .before .loop .inv) in
-    let n = small (t .before .loop .inv) (t .loop-test .taken) (c .wide .ensures) in
+    let n = small (t .before .loop .inv) (t .loop-test .taken) (c .wide32 .ensures .0) in
     search needs
 
 ends-inside : tie.Need-part-put-one-end Inv-loop μ-loop
 ends-inside c =
     let w = c .before .before in
     let t = w .before .before in
-    let h = inside (t .before .loop .inv) (t .loop-test .taken) (w .wide .ensures) in
+    let h = inside (t .before .loop .inv .taking) (t .loop-test .taken) (w .wide32 .ensures .0) in
     search needs
 
 stands : tie.Need-put-one-requires Inv-loop μ-loop
@@ -43,8 +44,8 @@ stands c κs =
     let w = m .before in
     let t = w .before .before in
     let b = t .before .before .before .before .before .args .packets .now in
-    standing (t .before .loop .inv) (t .loop-test .taken) (w .wide .ensures) (m .place .ensures)
-    (part-is b (t .before .loop .from) (w .wide .result))
+    standing (t .before .loop .inv) (t .loop-test .taken) (w .wide32 .ensures .0) (m .place .ensures)
+    (part-is b (t .before .loop .from) (w .wide32 .result))
 
 says : tie.Need-after-requires Inv-loop μ-loop
 says c κs =
@@ -60,8 +61,8 @@ again c =
     let w = m .before in
     let t = w .before .before in
     let b = t .before .before .before .before .before .args .packets .now in
-    writing-next (t .before .loop .inv) (t .loop-test .taken) (w .wide .ensures) (m .place .ensures)
-    (part-is b (t .before .loop .from) (w .wide .result)) refl (o .put-one .ensures) (r .after .ensures)
+    writing-next (t .before .loop .inv) (t .loop-test .taken) (w .wide32 .ensures .0) (m .place .ensures)
+    (part-is b (t .before .loop .from) (w .wide32 .result)) refl (o .put-one .ensures) (r .after .ensures)
 
 ends : tie.Need-returns Inv-loop μ-loop
 ends c = writing-done (c .before .loop .inv) (omega arith)

@@ -4,19 +4,26 @@ use Prim.Native.Nat.{_-_}
 use lib.ListN.{length}
 use borrow.Author.Needs.{needs}
 use Rattle.rows.proofs.FillLaws.{fill-refused, fill-nothing}
-use Rattle.usb_rows.specs.Loops.{Giving}
-use Rattle.usb_rows.proofs.LoopLaws as laws
+use Rattle.rows.specs.Ahead.{Giving}
+use Rattle.rows.specs.Fill.{filling}
+use Rattle.rows.proofs.LoopLaws as laws
+use Rattle.usb.specs.Reading.{ahead}
+use Rattle.usb_plan.specs.Plan.{setting}
+use Rattle.usb_step.specs.Place.{Standing}
+use Rattle.usb_rows.proofs.LoopLaws.{giving}
 use Rattle.usb_rows.proofs.fill.Statement.{statement}
 use Rattle.usb_rows.proofs.fill.Tie as tie
 
 abbrev Inv-loop : tie.InvT-loop
-Inv-loop p t rows₀ a₀ i₀ c₀ rows a i c = Giving p t c₀ rows₀ a i c rows
+Inv-loop p t rows₀ a₀ i₀ c₀ rows a i c =
+    Giving (ahead (setting p) t) (Standing p t) (p .direction) (p .ctrwidth)
+    (filling (p .direction) (p .ctrwidth) rows₀ 0 c₀ (ahead (setting p) t 0)) (length rows₀) a i c rows
 
 abbrev μ-loop : tie.MeasureT-loop
 μ-loop p t rows₀ a₀ i₀ c₀ rows a i c = length t - a .q
 
 begins : tie.Need-loop-holds Inv-loop μ-loop
-begins c = laws.giving (c .before .before .pre)
+begins c = giving (c .before .before .pre)
 
 message-put : tie.Need-put-requires Inv-loop μ-loop
 message-put c κs =

@@ -5,19 +5,23 @@ use native.Mathlib.Omega.{arith}
 use lib.ListN.{length}
 use borrow.Author.Needs.{needs}
 use Rattle.rows.proofs.CountLaws.{count-refused, count-nothing}
-use Rattle.usb_rows.specs.Loops.{Judging}
-use Rattle.usb_rows.proofs.LoopLaws as laws
+use Rattle.rows.specs.Ahead.{Judging}
+use Rattle.rows.proofs.LoopLaws as laws
+use Rattle.usb.specs.Reading.{ahead}
+use Rattle.usb_plan.specs.Plan.{setting}
+use Rattle.usb_step.specs.Place.{Standing}
+use Rattle.usb_rows.proofs.LoopLaws.{judging}
 use Rattle.usb_rows.proofs.judge.Statement.{statement}
 use Rattle.usb_rows.proofs.judge.Tie as tie
 
 abbrev Inv-loop : tie.InvT-loop
-Inv-loop p t a₀ rows₀ a rows = Judging p t a rows
+Inv-loop p t a₀ rows₀ a rows = Judging (ahead (setting p) t) (Standing p t) a rows
 
 abbrev μ-loop : tie.MeasureT-loop
 μ-loop p t a₀ rows₀ a rows = length t - a .q
 
 begins : tie.Need-loop-holds Inv-loop μ-loop
-begins c = laws.judging (c .before .pre)
+begins c = judging (c .before .pre)
 
 message-less : tie.Need-loop-less Inv-loop μ-loop
 message-less c = laws.message-less (rw (c .before .next .given .1) at (c .before .before .before .see .ensures .ahead))

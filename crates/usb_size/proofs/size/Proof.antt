@@ -21,7 +21,7 @@ misfit : tie.Need-returns Inv-loop μ-loop
 misfit c =
     let u = c .before in
     let l = u .before .before .before in
-    size-misfit (l .before .loop .inv) (l .loop-test .taken) (u .before .wide .ensures) (sym (u .unfit .ensures .is) ∙ c .if1 .taken)
+    size-misfit (l .before .loop .inv) (l .loop-test .taken) (u .before .wide32 .ensures .0) (sym (u .unfit .ensures .is) ∙ c .if1 .taken)
 
 places : tie.Need-place-requires Inv-loop μ-loop
 places c κs =
@@ -34,7 +34,7 @@ again c =
     let m = c .before in
     let u = m .before .before in
     let l = u .before .before .before in
-    size-next (l .before .loop .inv) (l .loop-test .taken) (u .before .wide .ensures) (sym (u .unfit .ensures .is) ∙ m .before .if1 .left)
+    size-next (l .before .loop .inv) (l .loop-test .taken) (u .before .wide32 .ensures .0) (sym (u .unfit .ensures .is) ∙ m .before .if1 .left)
     (m .place .ensures)
 
 ends : tie.Need-returns-2 Inv-loop μ-loop

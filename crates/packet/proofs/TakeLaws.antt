@@ -1,0 +1,86 @@
+-- Going through the lengths that a writer is given, one a turn: what is behind, and what is left of the lengths and of the joined bytes.
+use Prim.Native.Nat.{ℕ, suc, _+_, _-_, _<_, _≤_}
+use native.Mathlib.Omega.{arith}
+use mathlib.Core.Path.{_≡_, refl, _∙_}
+use mathlib.Core.Bool.{Bool, true, false, cond}
+use mathlib.Core.List.{List, [], _∷_}
+use lib.ListN.{length, getD, take, drop, drop-of-length-le}
+use lib.Seq.{drop-drop}
+use Rattle.layout.proofs.PartLaws.{drop-next, long}
+use Rattle.packet.specs.Packets.{sum, packets, first}
+
+-- the length at i, and that behind the last there is none
+pub here : (ns : List ℕ) (i : ℕ) {n : ℕ} → i < length ns → n ≡ getD ns i 0 → drop i ns ≡ n ∷ drop (i + 1) ns
+here ns i l e = rw e (drop-next ns i l)
+
+pub none-left : (ns : List ℕ) (i : ℕ) → length ns ≤ i → drop i ns ≡ []
+none-left ns i l = drop-of-length-le ns {i = i} l
+
+---- The packets ----------------------------------------------------------------------------------------------------------------
+
+-- of the packets of lengths ns in the joined bytes bs those before i are taken, and the one at i starts at `from`
+pub record Taking (bs ns : List ℕ) (from i : ℕ) : Type 0 where
+  pub few : i ≤ length ns
+  pub left : from + sum (drop i ns) ≡ length bs
+
+pub taking : {bs ns : List ℕ} → sum ns ≡ length bs → Taking bs ns 0 0
+taking e = record { few = omega arith; left = omega arith }
+
+-- the part of the joined bytes that is handed on
+pub part-is : (bs : List ℕ) (from n : ℕ) → take (from + n - from) (drop from bs) ≡ take n (drop from bs)
+part-is bs from n = let e : from + n - from ≡ n = omega arith in rw e
+
+pub front-is : (bs : List ℕ) (n : ℕ) → take (n - 0) (drop 0 bs) ≡ take n (drop 0 bs)
+front-is bs n = let e : n - 0 ≡ n = omega arith in rw e
+
+module _ {bs ns : List ℕ} {from i : ℕ} (t : Taking bs ns from i) (l : i < length ns) {n : ℕ} (e : n ≡ getD ns i 0) where
+  -- the packet at i lies inside the joined bytes
+  pub inside : from + n ≤ length bs
+  inside = let g = rw (here ns i l e) at (t .left) in omega arith
+
+  pub packet-long : {b : List ℕ} → b ≡ take n (drop from bs) → length b ≡ n
+  packet-long f = rw f (long bs from n inside)
+
+  module _ {to : ℕ} (g : to ≡ from + n) where
+    pub taking-next : Taking bs ns to (i + 1)
+    taking-next = let h = rw (here ns i l e) at (t .left) in record { few = omega arith; left = omega arith }
+
+    pub packets-on : {b : List ℕ} → b ≡ take n (drop from bs) → packets (drop i ns) (drop from bs) ≡ b ∷ packets (drop (i + 1) ns) (drop to bs)
+    unfolding packets
+    packets-on f = rw (here ns i l e, f, g, ← drop-drop n from bs)
+
+---- A test that is to pass at none ---------------------------------------------------------------------------------------------
+
+module _ {A : Type 0} (f : A → Bool) where
+  -- the test passes at none of the i entries that are behind
+  pub record Passing (whole left : List A) (i : ℕ) : Type 0 where
+    pub is : first f whole ≡ i + first f left
+
+  pub passing : {whole left : List A} → whole ≡ left → Passing whole left 0
+  passing e = record { is = rw e (omega arith) }
+
+module _ {A : Type 0} {f : A → Bool} {whole left : List A} {i : ℕ} (p : Passing f whole left i) where
+  pub passing-next : {x : A} {xs : List A} → left ≡ x ∷ xs → f x ≡ false → Passing f whole xs (i + 1)
+  unfolding first
+  passing-next {x} {xs} e g = let h : first f whole ≡ i + suc (first f xs) = p .is ∙ rw (e, g) in record { is = omega arith }
+
+  pub passes-here : {x : A} {xs : List A} → left ≡ x ∷ xs → f x ≡ true → first f whole ≡ i
+  unfolding first
+  passes-here e g = let h : first f whole ≡ i + 0 = p .is ∙ rw (e, g) in omega arith
+
+  pub passes-none : left ≡ [] → first f whole ≡ i
+  unfolding first
+  passes-none e = let h : first f whole ≡ i + 0 = p .is ∙ rw e in omega arith
+
+-- the test passes at none of these
+pub record Clear {A : Type 0} (f : A → Bool) (xs : List A) : Type 0 where
+  pub none : first f xs ≡ length xs
+
+-- so neither at the first of them, nor at one behind it
+pub clear-head : {A : Type 0} {f : A → Bool} {xs : List A} → Clear f xs → {x : A} {ys : List A} → xs ≡ x ∷ ys → (f x ≡ false) × Clear f ys
+unfolding first
+clear-head {A} {f} {xs} c {x} {ys} e = at (f x) (rw e at (c .none))
+  where
+    at : (b : Bool) → cond b 0 (suc (first f ys)) ≡ suc (length ys) → (b ≡ false) × Clear f ys
+    at true e = absurd (omega arith)
+    at false e = (refl, record { none = omega arith })

@@ -1,0 +1,4 @@
+pub mod Example
+pub mod ReportLaws
+pub mod RowsLaws
+pub mod TextLaws

@@ -1,0 +1,103 @@
+-- A table of 2,048 rows is enough for every input that the program reads, and what stood in it does not matter.
+use Prim.Native.Nat.{ℕ, zero, suc, _+_, _*_, _%_, _<_, _≤_}
+use native.Mathlib.Omega.{arith}
+use mathlib.Core.Path.{_≡_, refl, sym, _∙_}
+use mathlib.Core.List.{List, _++_}
+use lib.ListN.{length, drop, length-append, length-drop, List·getD-append}
+use lib.Seq.{sets, sets-eq, drop-append-le}
+use borrow.Author.Tests.{lt-ltb, le-ltb}
+use Rattle.layout.specs.Walk.{Out, Out.list, Out.refused}
+use Rattle.packet.specs.declared.Counter.{Counter}
+use Rattle.packet.specs.declared.Reading.{Reading}
+use Rattle.packet.specs.declared.Reading.the-variants as R
+use Rattle.packet.specs.Answer.{Answer, Gives, settled}
+use Rattle.packet.specs.Counter.{fresh, valid}
+use Rattle.packet.specs.Message.{Msg}
+use Rattle.packet.specs.Row.{table}
+use Rattle.packet.proofs.RowLaws.{length-table}
+use Rattle.usb.specs.Layout.{Laid, Laid.here, Laid.message, Laid.rest}
+use Rattle.usb.specs.Setting.{W}
+use Rattle.usb.specs.Reading.{judged, readOf}
+use Rattle.usb.proofs.ReadLaws.{read-sound}
+use Rattle.usb.proofs.RefusalLaws.{accepted-exactly}
+use Rattle.rowtext.specs.Text.{lines, refusedText, told, textOf, said, programText, u1}
+use Rattle.rowtext.specs.Put.{Within, Roomy, Tellable, Prepared, Reports}
+
+---- An answer ------------------------------------------------------------------------------------------------------------------
+
+within : (t : List ℕ) (c : Counter) (rows new : List ℕ) → length new ≡ length rows → (r : Reading)
+    → r ≡ readOf u1 t c rows .answer → Within r new
+within t c rows new l (R.Rows k d) e =
+    let a = accepted-exactly u1 t c rows k d .0 (sym e) in
+    omega (arith, a .room, a .count)
+within t c rows new l (R.Refused n p) e = tt
+
+pub tellable : {out rows new : List ℕ} → Roomy out rows → (t : List ℕ) (c : Counter) {r : Reading} → Gives (readOf u1 t c rows) r new
+    → length new ≡ length rows → Tellable out new r
+tellable {out} {rows} {new} k t c {r} g l =
+    record {
+      roomy = record { lines = omega (arith, k .lines); refusal = k .refusal };
+      within = within t c rows new l r (g .answer);
+    }
+
+---- The rows that fit ----------------------------------------------------------------------------------------------------------
+
+-- a message has at least four bytes
+four : {p q : ℕ} {cs bs : List ℕ} {ms : List Msg} → Laid u1 p cs q ms bs → 4 * length ms ≤ length bs
+four here = omega arith
+four (message h b e {bs = bs} {ms = ms} m l) =
+    let w : (length h + length b + length e) % 4 ≡ 0 = m .whole in
+    simp length-append (omega (arith, four l, m .least))
+four (rest r {bs = bs} f x l) = simp length-append (omega (arith, four l))
+
+-- the first k rows, whatever stands behind them
+lines-front : (k : ℕ) (xs ys : List ℕ) → 5 * k ≤ length xs → lines k (xs ++ ys) ≡ lines k xs
+unfolding lines
+lines-front zero xs ys h = refl
+lines-front (suc k) xs ys h =
+    let l : 5 * k ≤ length (drop 5 xs) = simp length-drop (omega arith) in
+    rw (
+      List·getD-append xs ys 0 0 (omega arith),
+      List·getD-append xs ys 0 1 (omega arith),
+      List·getD-append xs ys 0 2 (omega arith),
+      List·getD-append xs ys 0 3 (omega arith),
+      List·getD-append xs ys 0 4 (omega arith),
+      drop-append-le 5 xs ys (omega arith),
+      lines-front k (drop 5 xs) ys l,
+    )
+
+---- The program ----------------------------------------------------------------------------------------------------------------
+
+module _ (t rows : List ℕ) (n : 10240 ≤ length rows) (h : length t ≤ 8192) where
+  -- what was judged is told as it was judged: the table is never too small
+  same-said : (o : Out Msg) → judged u1 t ≡ o → textOf (readOf u1 t fresh rows) ≡ said o
+  unfolding readOf settled valid
+  same-said (refused a p) e = rw e
+  same-said (list ms) e =
+      let f : 4 * length ms ≤ length t = four (read-sound u1 t ms e .laid) in
+      let tb : List ℕ = table (u1 .direction) (W u1) fresh ms in
+      let l : length tb ≡ 5 * length ms = length-table (u1 .direction) (W u1) fresh ms in
+      let s : sets rows 0 tb ≡ tb ++ drop (0 + length tb) rows = sets-eq tb rows 0 (omega arith) in
+      rw (e, le-ltb (length rows) (5 * length ms) (omega arith), s)
+      (lines-front (length ms) tb (drop (0 + length tb) rows) (omega arith))
+
+  pub short-text : textOf (readOf u1 t fresh rows) ≡ programText t
+  unfolding programText
+  short-text = same-said (judged u1 t) refl ∙ rw (le-ltb 8192 (length t) h)
+
+pub long-text : (t : List ℕ) → 8192 < length t → refusedText 2 0 ≡ programText t
+unfolding programText
+long-text t h = rw (lt-ltb 8192 (length t) h)
+
+pub tells-so : {old text other new : List ℕ} {r : ℕ} → Reports old text new r → text ≡ other → Reports old other new r
+tells-so k e = rw (← e) k
+
+pub roomy : {out rows : List ℕ} → Prepared out rows → Roomy out rows
+roomy p = record { lines = p .room; refusal = omega (arith, p .room, p .table) }
+
+pub told-text : {a : Answer Reading} {r : Reading} {new : List ℕ} → Gives a r new → told r new ≡ textOf a
+told-text g = rw (g .answer, g .lent)
+
+-- any two results that the contract allows are equal
+pub one-report : {old text new past : List ℕ} {r u : ℕ} → Reports old text new r → Reports old text past u → (r ≡ u) × (new ≡ past)
+one-report k l = (k .count ∙ sym (l .count), k .bytes ∙ sym (l .bytes))

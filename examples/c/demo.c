@@ -1,0 +1,102 @@
+/* Writes packets as a USB transfer and as a FlexRay frame, reads both back, and reads a transfer that was cut. */
+#include <stdio.h>
+
+#include "plumagemud.h"
+
+#define COUNT(a) (sizeof(a) / sizeof((a)[0]))
+
+static const char *const kinds[] = {"none", "RES", "ERR", "EV", "SERV", "DAQ", "CMD", "STIM"};
+
+static void show(const uint8_t *bytes, size_t n)
+{
+    for (size_t i = 0; i < n; i++)
+        printf(" %02X", (unsigned)bytes[i]);
+    printf("\n");
+}
+
+static void show_written(const char *what, xcp_written w, const uint8_t *out)
+{
+    if (w.number != 0) {
+        printf("%s: refused %u at %u\n", what, (unsigned)w.number, (unsigned)w.value);
+        return;
+    }
+    printf("%s: %u bytes, next counter %u:", what, (unsigned)w.value, (unsigned)w.counter);
+    show(out, w.value);
+}
+
+static void show_read(const char *what, xcp_read r, const uint8_t *input, const uint32_t *rows)
+{
+    if (r.number != 0) {
+        printf("%s: refused %u at %u\n", what, (unsigned)r.number, (unsigned)r.value);
+        return;
+    }
+    if (r.counter.known != 0)
+        printf("%s: %u rows, counter %u expected next\n", what, (unsigned)r.value, (unsigned)r.counter.expected);
+    else
+        printf("%s: %u rows, no counter yet\n", what, (unsigned)r.value);
+    for (uint32_t i = 0; i < r.value; i++) {
+        const uint32_t *row = rows + 5 * i;
+        printf("  at %u, counter %u, gap %u, %s:", (unsigned)row[0], (unsigned)row[2], (unsigned)row[3], kinds[row[4]]);
+        show(input + row[0], row[1]);
+    }
+}
+
+static void usb(void)
+{
+    /* LEN and CTR bytes, multiple packing, alignment 4, data packets of 16 bytes, packets of up to 64, from the slave */
+    const xcp_usb_setting s = {1, 1, 4, 16, 64, 0};
+    const uint8_t packets[] = {0xFF, 0x01, 0x02, 0x03};
+    const uint32_t lengths[] = {1, 3};
+    uint8_t out[64];
+    uint32_t rows[5 * 8];
+    xcp_counter state = {0, 0};
+
+    const xcp_written w = xcp_usb_write(s, packets, COUNT(packets), lengths, COUNT(lengths), 254, 0xEE, 0, out, COUNT(out));
+    show_written("usb write", w, out);
+    if (w.number != 0)
+        return;
+
+    xcp_read r = xcp_usb_read(s, out, w.value, state, rows, COUNT(rows));
+    show_read("usb read", r, out, rows);
+    state = r.counter;
+
+    /* the same transfer again: 0 is expected, and 254 comes */
+    r = xcp_usb_read(s, out, w.value, state, rows, COUNT(rows));
+    show_read("usb read again", r, out, rows);
+    state = r.counter;
+
+    /* its last byte is missing: the second message, at 4, has lost a part of its tail */
+    r = xcp_usb_read(s, out, w.value - 1, state, rows, COUNT(rows));
+    show_read("usb read, cut", r, out, rows);
+}
+
+static void flexray(void)
+{
+    /* node 7, from the slave, frames of up to 32 bytes, NAX and LEN, alignment 2 */
+    const xcp_flexray_setting s = {7, 0, 32, 5, 2};
+    const uint8_t packets[] = {0x01, 0x02, 0xFF};
+    const uint32_t lengths[] = {2, 1};
+    const xcp_counter fresh = {0, 0};
+    uint8_t out[32];
+    uint32_t rows[5 * 8];
+
+    const xcp_written w = xcp_flexray_write(s, packets, COUNT(packets), lengths, COUNT(lengths), 0, 0xEE, out, COUNT(out));
+    show_written("flexray write", w, out);
+    if (w.number != 0)
+        return;
+
+    xcp_read r = xcp_flexray_read(s, out, w.value, fresh, rows, COUNT(rows));
+    show_read("flexray read", r, out, rows);
+
+    /* the byte that makes the frame even stands on the next LEN's place, and must be 0 */
+    out[7] = 0xEE;
+    r = xcp_flexray_read(s, out, w.value, fresh, rows, COUNT(rows));
+    show_read("flexray read, damaged", r, out, rows);
+}
+
+int main(void)
+{
+    usb();
+    flexray();
+    return 0;
+}

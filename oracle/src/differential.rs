@@ -1,0 +1,219 @@
+//! Random cases through the static library of crate plumagemud: `differential SEED COUNT`. What it answers, all that was lent to it, and
+//! what stands on both sides of that are compared with the oracle's answer.
+
+mod cases;
+mod hits;
+mod random;
+mod rule;
+
+use cases::{Answer, Bounds, Call};
+use rule::{Counter, Read, Write};
+
+#[repr(C)]
+#[derive(Clone, Copy)]
+struct UsbSetting {
+    header: u32,
+    packing: u32,
+    align: u32,
+    data_packet: u32,
+    longest: u32,
+    direction: u32,
+}
+
+#[repr(C)]
+#[derive(Clone, Copy)]
+struct FlexRaySetting {
+    node: u32,
+    direction: u32,
+    ceiling: u32,
+    header: u32,
+    align: u32,
+}
+
+#[repr(C)]
+#[derive(Clone, Copy, Debug, PartialEq)]
+struct State {
+    known: u32,
+    expected: u32,
+}
+
+#[repr(C)]
+#[derive(Clone, Copy, Debug, PartialEq)]
+struct ReadResult {
+    number: u32,
+    value: u32,
+    counter: State,
+}
+
+#[repr(C)]
+#[derive(Clone, Copy, Debug, PartialEq)]
+struct WriteResult {
+    number: u32,
+    value: u32,
+    counter: u32,
+}
+
+#[repr(C)]
+#[derive(Clone, Copy, Debug, PartialEq)]
+struct CheckResult {
+    number: u32,
+    place: u32,
+}
+
+extern "C" {
+    fn xcp_usb_read(s: UsbSetting, t: *const u8, n: usize, c: State, rows: *mut u32, numbers: usize) -> ReadResult;
+    fn xcp_flexray_read(s: FlexRaySetting, t: *const u8, n: usize, c: State, rows: *mut u32, numbers: usize) -> ReadResult;
+    fn xcp_usb_write(
+        s: UsbSetting, packets: *const u8, n: usize, lengths: *const u32, count: usize, first: u32, fill: u8, full: u32,
+        out: *mut u8, room: usize,
+    ) -> WriteResult;
+    fn xcp_flexray_write(
+        s: FlexRaySetting, packets: *const u8, n: usize, lengths: *const u32, count: usize, first: u32, fill: u8,
+        out: *mut u8, room: usize,
+    ) -> WriteResult;
+    fn xcp_part_check(input: *const u8, n: usize, place: u32, length: u32) -> CheckResult;
+    fn xcp_kind(direction: u32, packet: *const u8, n: usize) -> u32;
+}
+
+const BOUNDS: Bounds = Bounds { numbers: 700_000, room: 300_000, packets: 300_000, lengths: 5_000 };
+
+/// What stands in and around all that is lent, and how much of it around.
+const NUMBER: u32 = 0xA5C3_1E7F;
+const BYTE: u8 = 0xB7;
+const AROUND: usize = 16;
+
+fn usb(s: &rule::Usb) -> UsbSetting {
+    UsbSetting {
+        header: s.header, packing: s.packing, align: s.align, data_packet: s.size, longest: s.longest, direction: s.direction,
+    }
+}
+
+fn flexray(s: &rule::FlexRay) -> FlexRaySetting {
+    FlexRaySetting { node: s.node, direction: s.direction, ceiling: s.ceiling, header: s.header, align: s.align }
+}
+
+/// A state for C: any mark but 0 is known.
+fn state(c: Counter, mark: u32) -> State {
+    State { known: if c.known { mark } else { 0 }, expected: c.expected }
+}
+
+/// A slice with the same elements around it.
+fn lent<T: Copy>(n: usize, v: T) -> Vec<T> {
+    vec![v; n + 2 * AROUND]
+}
+
+fn reading(want: &Read, given: State, got: ReadResult, table: &[u32]) -> bool {
+    match want {
+        Read::Refused(n, place) => {
+            got == ReadResult { number: *n, value: *place, counter: given } && table.iter().all(|&v| v == NUMBER)
+        }
+        Read::Rows(rows, c) => {
+            // A state that was not altered has its old mark.
+            let marks = got.counter.known == c.known as u32 || got.counter == given;
+            let numbers = rows.concat();
+            let (before, rest) = table.split_at(AROUND);
+            let (written, behind) = rest.split_at(numbers.len());
+            (got.number, got.value, got.counter.expected) == (0, rows.len() as u32, c.expected)
+                && marks
+                && (got.counter.known != 0) == c.known
+                && written == numbers
+                && before.iter().chain(behind).all(|&v| v == NUMBER)
+        }
+    }
+}
+
+fn writing(want: &Write, first: u32, got: WriteResult, out: &[u8]) -> bool {
+    match want {
+        Write::Refused(n, place) => {
+            got == WriteResult { number: *n, value: *place, counter: first } && out.iter().all(|&b| b == BYTE)
+        }
+        Write::Bytes(bytes, next) => {
+            let (before, rest) = out.split_at(AROUND);
+            let (written, behind) = rest.split_at(bytes.len());
+            got == WriteResult { number: 0, value: bytes.len() as u32, counter: *next }
+                && written == bytes
+                && before.iter().chain(behind).all(|&b| b == BYTE)
+        }
+    }
+}
+
+/// Whether the library agrees, and what it answered.
+fn agrees(call: &Call, want: &Answer, mark: u32) -> (bool, String) {
+    match (call, want) {
+        (Call::UsbRead { s, t, c, table }, Answer::Read(want)) => {
+            let mut rows = lent(*table, NUMBER);
+            let c = state(*c, mark);
+            let got = unsafe { xcp_usb_read(usb(s), t.as_ptr(), t.len(), c, rows.as_mut_ptr().add(AROUND), *table) };
+            (reading(want, c, got, &rows), format!("{got:?}"))
+        }
+        (Call::FlexRayRead { s, t, c, table }, Answer::Read(want)) => {
+            let mut rows = lent(*table, NUMBER);
+            let c = state(*c, mark);
+            let got = unsafe { xcp_flexray_read(flexray(s), t.as_ptr(), t.len(), c, rows.as_mut_ptr().add(AROUND), *table) };
+            (reading(want, c, got, &rows), format!("{got:?}"))
+        }
+        (Call::UsbWrite { s, packets, lengths, first, fill, full, room }, Answer::Write(want)) => {
+            let mut out = lent(*room, BYTE);
+            let full = if *full { mark } else { 0 };
+            let got = unsafe {
+                xcp_usb_write(
+                    usb(s), packets.as_ptr(), packets.len(), lengths.as_ptr(), lengths.len(), *first, *fill, full,
+                    out.as_mut_ptr().add(AROUND), *room,
+                )
+            };
+            (writing(want, *first, got, &out), format!("{got:?}"))
+        }
+        (Call::FlexRayWrite { s, packets, lengths, first, fill, room }, Answer::Write(want)) => {
+            let mut out = lent(*room, BYTE);
+            let got = unsafe {
+                xcp_flexray_write(
+                    flexray(s), packets.as_ptr(), packets.len(), lengths.as_ptr(), lengths.len(), *first, *fill,
+                    out.as_mut_ptr().add(AROUND), *room,
+                )
+            };
+            (writing(want, *first, got, &out), format!("{got:?}"))
+        }
+        (Call::Part { t, place, length }, Answer::Part(want, _)) => {
+            let got = unsafe { xcp_part_check(t.as_ptr(), t.len(), *place, *length) };
+            let (number, at) = want.unwrap_or((0, 0));
+            (got == CheckResult { number, place: at as u32 }, format!("{got:?}"))
+        }
+        (Call::Kind { direction, packet }, Answer::Kind(want)) => {
+            let got = unsafe { xcp_kind(*direction, packet.as_ptr(), packet.len()) };
+            (got == *want, format!("{got}"))
+        }
+        _ => (false, String::new()),
+    }
+}
+
+fn main() {
+    let mut words = std::env::args().skip(1).map(|w| w.parse::<u64>().expect("SEED and COUNT are numbers"));
+    let (Some(seed), Some(count)) = (words.next(), words.next()) else {
+        eprintln!("differential SEED COUNT");
+        std::process::exit(2);
+    };
+    let mut r = random::Random(seed);
+    let mut hits = hits::Hits::new();
+    let mut mismatches = 0;
+    for i in 0..count {
+        let call = cases::case(&mut r, &BOUNDS);
+        let want = call.answer();
+        let mark = r.pick(&[1, 1, 2, 256, u32::MAX]);
+        hits.count(&call, &want);
+        let (same, got) = agrees(&call, &want, mark);
+        if !same {
+            mismatches += 1;
+            if mismatches <= 5 {
+                let text = |t: String| t.chars().take(3_000).collect::<String>();
+                println!("case {i}: {}\noracle: {}\nlibrary: {got}", text(format!("{call:?}")), text(format!("{want:?}")));
+            }
+        }
+    }
+    print!("{}", hits.table());
+    println!("{mismatches} mismatches");
+    let few = count >= 1_000_000 && hits.least(&cases::AIMS) < 1_000;
+    if few {
+        println!("an answer came fewer than 1000 times");
+    }
+    std::process::exit((mismatches > 0 || few) as i32);
+}

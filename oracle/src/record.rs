@@ -1,0 +1,135 @@
+//! The form of a case in the data file, and the line expected of it.
+//!
+//! A record is fourteen words, low byte first: function, bytes of the body, six numbers of the setting, mark or full or place, counter
+//! or length, length of what is lent, fill, runs of bytes, runs of lengths. The body has the runs of bytes, each a word n and a byte m:
+//! n bytes follow (m is 0), or one byte that stands n times (m is 1). Behind them are the runs of lengths, each a word n and the length,
+//! a word, that stands n times.
+//!
+//! A line has five numbers: 0 or the refusal's number; for rows the count, 1 or 0 for a state known or fresh, the counter expected;
+//! for written bytes the count, the next counter, 0; for a part its length, 0, 0; for a kind the kind, 0, 0; for a refusal its place,
+//! 0, 0; and the digest of all that was lent, or of the part.
+
+use crate::cases::*;
+use crate::rule::*;
+
+/// What stands in a table or output before the call.
+pub const NUMBER: u32 = 0xA5C3_1E7F;
+pub const BYTE: u8 = 0xB7;
+
+const DIGEST: u32 = 2_166_136_261;
+
+pub fn mix(h: u32, v: u32) -> u32 {
+    h.wrapping_mul(16_777_619).wrapping_add(v)
+}
+
+fn word(out: &mut Vec<u8>, n: u32) {
+    out.extend_from_slice(&n.to_le_bytes());
+}
+
+/// The runs of bytes; eight or more of one value are one run.
+fn byte_runs(out: &mut Vec<u8>, t: &[u8]) -> u32 {
+    let mut runs = 0;
+    let mut from = 0;
+    let mut i = 0;
+    let literal = |out: &mut Vec<u8>, part: &[u8]| {
+        if part.is_empty() {
+            return 0;
+        }
+        word(out, part.len() as u32);
+        out.push(0);
+        out.extend_from_slice(part);
+        1
+    };
+    while i < t.len() {
+        let n = t[i..].iter().take_while(|&&b| b == t[i]).count();
+        if n >= 8 {
+            runs += 1 + literal(out, &t[from..i]);
+            word(out, n as u32);
+            out.push(1);
+            out.push(t[i]);
+            from = i + n;
+        }
+        i += n;
+    }
+    runs + literal(out, &t[from..])
+}
+
+fn length_runs(out: &mut Vec<u8>, lengths: &[u32]) -> u32 {
+    let mut runs = 0;
+    let mut i = 0;
+    while i < lengths.len() {
+        let n = lengths[i..].iter().take_while(|&&l| l == lengths[i]).count();
+        word(out, n as u32);
+        word(out, lengths[i]);
+        runs += 1;
+        i += n;
+    }
+    runs
+}
+
+fn usb(s: &Usb) -> [u32; 6] {
+    [s.header, s.packing, s.align, s.size, s.longest, s.direction]
+}
+
+fn flexray(s: &FlexRay) -> [u32; 6] {
+    [s.node, s.direction, s.ceiling, s.header, s.align, 0]
+}
+
+pub fn record(call: &Call) -> Vec<u8> {
+    let none: Vec<u32> = Vec::new();
+    let (setting, four, bytes, lengths) = match call {
+        Call::UsbRead { s, t, c, table } => (usb(s), [c.known as u32, c.expected, *table as u32, 0], t, &none),
+        Call::UsbWrite { s, packets, lengths, first, fill, full, room } => {
+            (usb(s), [*full as u32, *first, *room as u32, *fill as u32], packets, lengths)
+        }
+        Call::FlexRayRead { s, t, c, table } => (flexray(s), [c.known as u32, c.expected, *table as u32, 0], t, &none),
+        Call::FlexRayWrite { s, packets, lengths, first, fill, room } => {
+            (flexray(s), [0, *first, *room as u32, *fill as u32], packets, lengths)
+        }
+        Call::Part { t, place, length } => ([0; 6], [*place, *length, 0, 0], t, &none),
+        Call::Kind { direction, packet } => ([*direction, 0, 0, 0, 0, 0], [0; 4], packet, &none),
+    };
+    let mut body = Vec::new();
+    let byte_count = byte_runs(&mut body, bytes);
+    let length_count = length_runs(&mut body, lengths);
+    let mut out = Vec::new();
+    word(&mut out, call.function() as u32);
+    word(&mut out, body.len() as u32);
+    for n in setting.into_iter().chain(four) {
+        word(&mut out, n);
+    }
+    word(&mut out, byte_count);
+    word(&mut out, length_count);
+    out.extend_from_slice(&body);
+    out
+}
+
+fn bytes_digest(out: &[u8], untouched: usize) -> u32 {
+    let written = out.iter().fold(DIGEST, |h, &b| mix(h, b as u32));
+    (0..untouched).fold(written, |h, _| mix(h, BYTE as u32))
+}
+
+fn rows_digest(rows: &[Row], untouched: usize) -> u32 {
+    let written = rows.iter().flatten().fold(DIGEST, |h, &n| mix(h, n));
+    (0..untouched).fold(written, |h, _| mix(h, NUMBER))
+}
+
+pub fn line(call: &Call, answer: &Answer) -> String {
+    let lent = match call {
+        Call::UsbRead { table, .. } | Call::FlexRayRead { table, .. } => *table,
+        Call::UsbWrite { room, .. } | Call::FlexRayWrite { room, .. } => *room,
+        _ => 0,
+    };
+    let n = match answer {
+        Answer::Read(Read::Rows(rows, c)) => {
+            [0, rows.len() as u32, c.known as u32, c.expected, rows_digest(rows, lent - 5 * rows.len())]
+        }
+        Answer::Read(Read::Refused(n, place)) => [*n, *place, 0, 0, rows_digest(&[], lent)],
+        Answer::Write(Write::Bytes(out, next)) => [0, out.len() as u32, *next, 0, bytes_digest(out, lent - out.len())],
+        Answer::Write(Write::Refused(n, place)) => [*n, *place, 0, 0, bytes_digest(&[], lent)],
+        Answer::Part(Some((n, place)), part) => [*n, *place as u32, 0, 0, bytes_digest(part, 0)],
+        Answer::Part(None, part) => [0, part.len() as u32, 0, 0, bytes_digest(part, 0)],
+        Answer::Kind(kind) => [0, *kind, 0, 0, DIGEST],
+    };
+    format!("{} {} {} {} {}\n", n[0], n[1], n[2], n[3], n[4])
+}
