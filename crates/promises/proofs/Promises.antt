@@ -30,6 +30,8 @@ use Rattle.flexray.specs.Row.{frameTable, frameState}
 use Rattle.promises.proofs.Call.{answered, IsRows}
 use Rattle.promises.proofs.Usb as Usb
 use Rattle.promises.proofs.Flexray as Flexray
+use Rattle.promises.proofs.OneResult as One
+use Rattle.promises.proofs.Starred as Starred
 
 ---- Demand 1: every call is answered, a bad one is refused by number and place, and a refused call changes nothing ----------------
 
@@ -135,3 +137,22 @@ module _ (s : FlexRaySetting.Setting) (t : List ℕ) (c : Counter) (rows : List 
 
   pub flexray-gives : (ms : List Msg) → FlexRayRefusal.Fine s c → Frame s ms t → 5 * length ms ≤ length rows → Flexray.Gave s t c rows r left ms
   flexray-gives = Flexray.demand-3 s t c rows call .1
+
+---- The examples, and that a contract determines what its function answers ---------------------------------------------------------
+
+-- the starred examples, and the others: what is given is what document 01 says, in one table
+pub starred : map (λ x. x .gives) Starred.examples ≡ map (λ x. x .is) Starred.examples
+starred = Starred.starred
+
+-- any two results that a contract allows are equal; OneResult has the other public functions
+pub usb-read-one : (s : UsbSetting.Setting) (t : List ℕ) (c : Counter) (rows : List ℕ) → One.Both (Usb.Reads s t c rows)
+usb-read-one = One.usb-read
+
+pub usb-write-one : (s : UsbSetting.Setting) (bs ns : List ℕ) (c fill : ℕ) (full : Bool) (out : List ℕ) → One.Both (Usb.Writes s bs ns c fill full out)
+usb-write-one = One.usb-write
+
+pub flexray-read-one : (s : FlexRaySetting.Setting) (t : List ℕ) (c : Counter) (rows : List ℕ) → One.Both (Flexray.Reads s t c rows)
+flexray-read-one = One.flexray-read
+
+pub flexray-write-one : (s : FlexRaySetting.Setting) (bs ns : List ℕ) (c fill : ℕ) (out : List ℕ) → One.Both (Flexray.Writes s bs ns c fill out)
+flexray-write-one = One.flexray-write

@@ -1,0 +1,533 @@
+/*
+ * Measures the library against idiomatic.c and tuned.c in one process. First all three are held to the same answers, on random
+ * cases and on every case that is measured; if one differs the exit status is 1. Then they take turns, with memcpy of the same
+ * bytes as the fourth.
+ */
+#include <stdio.h>
+#include <string.h>
+#include <time.h>
+
+#include "bench.h"
+
+enum { SINGLE, MULTIPLE, STREAMING };
+enum { TRANSFER = 262144, LENGTHS = 4096, ROWS = 131072, FRAMES = 1032, FRAME = 254 };
+enum { OURS, IDIOMATIC, TUNED, MEMCPY, WAYS };
+enum { MOST_ROUNDS = 4000, SAMPLE = 100000 }; /* SAMPLE: least nanoseconds of one timed run */
+
+typedef struct {
+    xcp_read (*usb_read)(xcp_usb_setting, const uint8_t *, size_t, xcp_counter, uint32_t *, size_t);
+    xcp_written (*usb_write)(xcp_usb_setting, const uint8_t *, size_t, const uint32_t *, size_t, uint32_t, uint8_t, uint32_t,
+                             uint8_t *, size_t);
+    xcp_read (*flexray_read)(xcp_flexray_setting, const uint8_t *, size_t, xcp_counter, uint32_t *, size_t);
+    xcp_written (*flexray_write)(xcp_flexray_setting, const uint8_t *, size_t, const uint32_t *, size_t, uint32_t, uint8_t,
+                                 uint8_t *, size_t);
+} implementation;
+
+static const implementation ways[3] = {
+    {xcp_usb_read, xcp_usb_write, xcp_flexray_read, xcp_flexray_write},
+    {idiomatic_usb_read, idiomatic_usb_write, idiomatic_flexray_read, idiomatic_flexray_write},
+    {tuned_usb_read, tuned_usb_write, tuned_flexray_read, tuned_flexray_write},
+};
+
+/* What is measured: frames, or transfers, one behind another in `transfer`; `lengths` and `packets` are those of all. */
+static struct {
+    xcp_usb_setting usb;
+    xcp_flexray_setting flexray;
+    size_t n, count, bytes, parts;                              /* all bytes laid out, all packets, their bytes; frames, transfers */
+    uint32_t in[FRAMES], length_of[FRAMES], bytes_of[FRAMES];   /* of each: its packets, its bytes, its packets' bytes */
+} it;
+
+static uint8_t packets[TRANSFER], transfer[TRANSFER], outs[3][TRANSFER], copied[TRANSFER];
+static uint32_t lengths[ROWS], tables[3][5 * (ROWS + 8)];
+
+static unsigned long long seed = 1;
+
+static uint32_t random_below(uint32_t n)
+{
+    seed ^= seed << 13;
+    seed ^= seed >> 7;
+    seed ^= seed << 17;
+    return (uint32_t)((seed >> 32) * n >> 32);
+}
+
+static uint32_t random_from(uint32_t least, uint32_t most)
+{
+    return least + random_below(most - least + 1);
+}
+
+static double now(void)
+{
+    struct timespec t;
+    clock_gettime(CLOCK_MONOTONIC, &t);
+    return (double)t.tv_sec * 1e9 + (double)t.tv_nsec;
+}
+
+static void random_bytes(uint8_t *to, size_t n)
+{
+    for (size_t i = 0; i < n; i++)
+        to[i] = (uint8_t)random_below(256);
+}
+
+/* The same answers? */
+
+static int same_read(xcp_read a, xcp_read b)
+{
+    return a.number == b.number && a.value == b.value && a.counter.known == b.counter.known
+        && a.counter.expected == b.counter.expected;
+}
+
+static int same_written(xcp_written a, xcp_written b)
+{
+    return a.number == b.number && a.value == b.value && a.counter == b.counter;
+}
+
+/* Reads in all three ways: answers and whole tables, behind the rows too. flexray 0: USB. */
+static int agree_read(int flexray, const uint8_t *t, size_t n, xcp_counter c, size_t numbers, size_t table, xcp_read *answer)
+{
+    xcp_read r[3];
+    for (int w = 0; w < 3; w++) {
+        memset(tables[w], 0xA5, table * sizeof *tables[w]);
+        r[w] = flexray ? ways[w].flexray_read(it.flexray, t, n, c, tables[w], numbers)
+                       : ways[w].usb_read(it.usb, t, n, c, tables[w], numbers);
+    }
+    *answer = r[0];
+    for (int w = 1; w < 3; w++)
+        if (!same_read(r[0], r[w]) || memcmp(tables[0], tables[w], table * sizeof *tables[0]) != 0)
+            return 0;
+    return 1;
+}
+
+static int agree_write(int flexray, const uint8_t *p, size_t n, const uint32_t *l, size_t count, uint32_t first,
+                       uint32_t fill_up, size_t room, size_t whole, xcp_written *answer)
+{
+    xcp_written r[3];
+    for (int w = 0; w < 3; w++) {
+        memset(outs[w], 0x5A, whole);
+        r[w] = flexray ? ways[w].flexray_write(it.flexray, p, n, l, count, first, 0xEE, outs[w], room)
+                       : ways[w].usb_write(it.usb, p, n, l, count, first, 0xEE, fill_up, outs[w], room);
+    }
+    *answer = r[0];
+    for (int w = 1; w < 3; w++)
+        if (!same_written(r[0], r[w]) || memcmp(outs[0], outs[w], whole) != 0)
+            return 0;
+    return 1;
+}
+
+/* Random settings, sound and not, written, damaged and read. Gives the cases in which the three differ. */
+static unsigned differing(unsigned cases, unsigned *refused)
+{
+    unsigned differ = 0;
+    *refused = 0;
+    for (unsigned i = 0; i < cases; i++) {
+        int flexray = i % 3 == 2;
+        uint32_t header = random_below(6), wide = header > 2;
+        it.usb = (xcp_usb_setting){header, random_below(3), 1u << random_below(4), 8 * random_from(1, 12),
+                                   random_from(8, wide ? 300 : 255), random_below(2)};
+        static const uint32_t pairs[12][2] = {{0, 1}, {1, 2}, {2, 4}, {3, 1}, {3, 2}, {4, 4}, {5, 1}, {5, 2}, {6, 4}, {7, 1},
+                                              {8, 2}, {8, 4}};
+        uint32_t pair = random_below(12);
+        it.flexray = (xcp_flexray_setting){random_below(256), random_below(2), 2 * random_from(4, 127), pairs[pair][0],
+                                           pairs[pair][1]};
+        if (random_below(16) == 0) {
+            uint32_t *fields[11] = {&it.usb.header, &it.usb.packing, &it.usb.align, &it.usb.data_packet, &it.usb.longest,
+                                    &it.usb.direction, &it.flexray.node, &it.flexray.direction, &it.flexray.ceiling,
+                                    &it.flexray.header, &it.flexray.align};
+            *fields[random_below(11)] = random_below(4) == 0 ? 0u - random_below(3) : random_below(300);
+        }
+
+        uint32_t count = random_below(flexray ? 4 : 24), most = 1u << random_below(7), sum = 0;
+        if (flexray && !random_below(2))
+            count = 1;
+        for (uint32_t k = 0; k < count; k++) {
+            lengths[k] = random_from(random_below(40) != 0, most);
+            sum += lengths[k];
+        }
+        size_t room = random_below(8) ? 4096 : random_below(300);
+        uint32_t first = random_below(8) ? random_below(256) : random_below(70000);
+        xcp_written w;
+        const uint8_t *p = packets + random_below(TRANSFER / 2);
+        if (!agree_write(flexray, p, sum + (random_below(30) == 0), lengths, count, first, random_below(2), room, 4200, &w))
+            differ++;
+        *refused += w.number != 0;
+
+        size_t n = w.number == 0 ? w.value : random_below(300);
+        memcpy(transfer, w.number == 0 ? outs[0] : p, n);
+        if (n != 0 && random_below(2))
+            transfer[random_below((uint32_t)n)] = (uint8_t)random_below(random_below(2) ? 8 : 256);
+        if (n != 0 && random_below(4) == 0)
+            n -= random_below(n < 9 ? (uint32_t)n : 9);
+        xcp_counter c = {random_below(3), random_below(8) ? first : random_below(70000)};
+        xcp_read r;
+        if (!agree_read(flexray, transfer, n, c, random_below(8) ? 20000 : random_below(60), 20000, &r))
+            differ++;
+        *refused += r.number != 0;
+    }
+    return differ;
+}
+
+/* Making what is measured. */
+
+/* One transfer with as many packets as fit; not more than 4096 in one write. Where it is only read, writes that are filled up are
+   joined until no more fits: a reader takes more messages than one write gives. */
+static int make_usb(xcp_usb_setting s, uint32_t least, uint32_t most, int joined)
+{
+    it.usb = s;
+    it.n = it.count = it.bytes = 0;
+    it.parts = 1;
+    uint32_t ctr = 0;
+    for (;;) {
+        size_t count = 0, bytes = 0, fits = 0;
+        xcp_written w = {0, 0, 0};
+        while (count < LENGTHS && it.count + count < ROWS) {
+            uint32_t n = random_from(least, most);
+            if (it.bytes + bytes + n > TRANSFER)
+                break;
+            lengths[it.count + count++] = n;
+            bytes += n;
+        }
+        /* the most of them that fit, by halves */
+        for (size_t step = LENGTHS; step != 0; step /= 2) {
+            if (fits + step > count)
+                continue;
+            size_t sum = 0;
+            for (size_t i = 0; i < fits + step; i++)
+                sum += lengths[it.count + i];
+            w = xcp_usb_write(s, packets + it.bytes, sum, lengths + it.count, fits + step, ctr, 0xEE, (uint32_t)joined,
+                              transfer + it.n, TRANSFER - it.n);
+            if (w.number == 0)
+                fits += step;
+        }
+        if (fits == 0)
+            return it.count != 0;
+        size_t sum = 0;
+        for (size_t i = 0; i < fits; i++)
+            sum += lengths[it.count + i];
+        w = xcp_usb_write(s, packets + it.bytes, sum, lengths + it.count, fits, ctr, 0xEE, (uint32_t)joined, transfer + it.n,
+                          TRANSFER - it.n);
+        it.n += w.value;
+        it.bytes += sum;
+        it.count += fits;
+        ctr = w.counter;
+        it.in[0] = (uint32_t)it.count;
+        it.length_of[0] = (uint32_t)it.n;
+        it.bytes_of[0] = (uint32_t)it.bytes;
+        if (!joined || w.number != 0)
+            return w.number == 0;
+    }
+}
+
+/* Frames of 254 bytes: packets until none fits, the last one cut to fit. */
+static int make_flexray(xcp_flexray_setting s, uint32_t least, uint32_t most)
+{
+    it.flexray = s;
+    it.n = it.count = it.bytes = 0;
+    uint32_t ctr = 0;
+    for (it.parts = 0; it.parts < FRAMES; it.parts++) {
+        uint32_t at = 3, count = 0, bytes = 0;
+        while (at < FRAME) {
+            uint32_t n = random_from(least, most);
+            if (at + n > FRAME)
+                n = FRAME - at;
+            lengths[it.count + count++] = n;
+            bytes += n;
+            at += n + 1;
+        }
+        xcp_written w = xcp_flexray_write(s, packets + it.bytes, bytes, lengths + it.count, count, ctr, 0xEE, transfer + it.n,
+                                          FRAME);
+        if (w.number != 0)
+            return 0;
+        it.in[it.parts] = count;
+        it.bytes_of[it.parts] = bytes;
+        it.length_of[it.parts] = w.value;
+        it.count += count;
+        it.bytes += bytes;
+        it.n += w.value;
+        ctr = w.counter;
+    }
+    return 1;
+}
+
+/* The same packets as so many transfers, each with as many packets. */
+static int make_parts(xcp_usb_setting s, uint32_t least, uint32_t most, size_t count, size_t parts)
+{
+    it.usb = s;
+    it.n = it.count = it.bytes = 0;
+    for (it.parts = 0; it.parts < parts; it.parts++) {
+        uint32_t bytes = 0, in = (uint32_t)(count / parts);
+        for (uint32_t i = 0; i < in; i++)
+            bytes += lengths[it.count + i] = random_from(least, most);
+        xcp_written w = xcp_usb_write(s, packets + it.bytes, bytes, lengths + it.count, in, 0, 0xEE, 0, transfer + it.n,
+                                      TRANSFER - it.n);
+        if (w.number != 0)
+            return 0;
+        it.in[it.parts] = in;
+        it.bytes_of[it.parts] = bytes;
+        it.length_of[it.parts] = w.value;
+        it.count += in;
+        it.bytes += bytes;
+        it.n += w.value;
+    }
+    return 1;
+}
+
+/* One run of each job in one of the ways. The sum of what they answer is kept, so that no call is left out. */
+
+typedef enum { USB_READ, USB_WRITE, FLEXRAY_READ, FLEXRAY_WRITE } job;
+
+static volatile uint32_t kept;
+
+static void run(job j, int w)
+{
+    if (w == MEMCPY) {
+        memcpy(copied, transfer, it.n);
+        __asm__ volatile("" : : "r"(copied) : "memory");
+        return;
+    }
+    const implementation *f = &ways[w];
+    const uint8_t *t = transfer, *p = packets;
+    const uint32_t *l = lengths;
+    uint8_t *out = outs[0];
+    uint32_t first = 0;
+    xcp_read r = {0, 0, {0, 0}};
+    xcp_written x;
+    for (size_t i = 0; i < it.parts; i++) {
+        switch (j) {
+        case USB_READ:
+            r = f->usb_read(it.usb, t, it.length_of[i], r.counter, tables[0], 5 * ROWS);
+            kept += r.value;
+            break;
+        case FLEXRAY_READ:
+            r = f->flexray_read(it.flexray, t, it.length_of[i], r.counter, tables[0], 5 * FRAME);
+            kept += r.value;
+            break;
+        case USB_WRITE:
+            x = f->usb_write(it.usb, p, it.bytes_of[i], l, it.in[i], 0, 0xEE, 0, out, it.length_of[i]);
+            kept += x.value;
+            break;
+        case FLEXRAY_WRITE:
+            x = f->flexray_write(it.flexray, p, it.bytes_of[i], l, it.in[i], first, 0xEE, out, it.length_of[i]);
+            first = x.counter;
+            kept += x.value;
+            break;
+        }
+        t += it.length_of[i];
+        out += it.length_of[i];
+        p += it.bytes_of[i];
+        l += it.in[i];
+    }
+}
+
+/* Whether the three agree on all of it, and give back what was put in: reading the rows, writing the bytes. */
+static int agree(job j)
+{
+    int flexray = j == FLEXRAY_READ || j == FLEXRAY_WRITE, reads = j == USB_READ || j == FLEXRAY_READ;
+    size_t from = 0, at = 0, to = 0;
+    xcp_read r = {0, 0, {0, 0}};
+    xcp_written w;
+    for (size_t i = 0; i < it.parts; i++) {
+        size_t n = it.length_of[i], table = 5 * (it.in[i] + 8u);
+        if (reads) {
+            if (!agree_read(flexray, transfer + to, n, r.counter, table, table, &r) || r.number != 0 || r.value != it.in[i])
+                return 0;
+            for (size_t k = 0; k < it.in[i]; k++)
+                if (tables[0][5 * k + 1] != lengths[at + k])
+                    return 0;
+        } else {
+            uint32_t first = flexray ? (uint32_t)i & 0xFF : 0;
+            if (!agree_write(flexray, packets + from, it.bytes_of[i], lengths + at, it.in[i], first, 0, n, n, &w) || w.number != 0
+                || w.value != n || memcmp(outs[0], transfer + to, n) != 0)
+                return 0;
+        }
+        from += it.bytes_of[i];
+        at += it.in[i];
+        to += n;
+    }
+    return 1;
+}
+
+/* Measuring. */
+
+static double samples[WAYS][MOST_ROUNDS], ratio[MOST_ROUNDS];
+
+static double median(double *a, int n)
+{
+    for (int gap = n / 2; gap > 0; gap /= 2)
+        for (int i = gap; i < n; i++) {
+            double x = a[i];
+            int k = i;
+            for (; k >= gap && a[k - gap] > x; k -= gap)
+                a[k] = a[k - gap];
+            a[k] = x;
+        }
+    return n % 2 ? a[n / 2] : (a[n / 2 - 1] + a[n / 2]) / 2;
+}
+
+static double median_ratio(int a, int b, int rounds)
+{
+    for (int i = 0; i < rounds; i++)
+        ratio[i] = samples[a][i] / samples[b][i];
+    return median(ratio, rounds);
+}
+
+/* ns for one run in each way, and the ratios. Each round times the four ways, and starts with another one. */
+typedef struct { double ns[WAYS], idiomatic, tuned; int rounds; } measured;
+
+static measured measure(job j, double budget)
+{
+    measured m;
+    int repeat[WAYS];
+    for (int w = 0; w < WAYS; w++) {
+        run(j, w);
+        for (repeat[w] = 1;; repeat[w] *= 2) {
+            double t = now();
+            for (int k = 0; k < repeat[w]; k++)
+                run(j, w);
+            if (now() - t >= SAMPLE)
+                break;
+        }
+    }
+    double start = now();
+    for (m.rounds = 0; m.rounds < MOST_ROUNDS && (m.rounds < 9 || now() - start < budget); m.rounds++)
+        for (int k = 0; k < WAYS; k++) {
+            int w = (k + m.rounds) % WAYS;
+            double t = now();
+            for (int i = 0; i < repeat[w]; i++)
+                run(j, w);
+            samples[w][m.rounds] = (now() - t) / repeat[w];
+        }
+    m.idiomatic = median_ratio(OURS, IDIOMATIC, m.rounds);
+    m.tuned = median_ratio(OURS, TUNED, m.rounds);
+    for (int w = 0; w < WAYS; w++)
+        m.ns[w] = median(samples[w], m.rounds);
+    return m;
+}
+
+static int differ;
+static int rows_measured, misses_idiomatic, misses_tuned;
+
+static void row(job j, const char *name, const char *setting, const char *sizes, double budget)
+{
+    if (!agree(j)) {
+        printf("%s, %s, %s: the answers differ\n", name, setting, sizes);
+        differ = 1;
+        return;
+    }
+    measured m = measure(j, budget);
+    double messages = (double)it.count;
+    int over = m.idiomatic > 0.8, slower = m.tuned > 1.0;
+    rows_measured++;
+    misses_idiomatic += over;
+    misses_tuned += slower;
+    printf("| %s | %s | %s | %lu | %lu | %.2f | %.2f%s | %.2f%s | %.2f |\n", name, setting, sizes, (unsigned long)it.n,
+           (unsigned long)it.count, m.ns[OURS] / messages, m.idiomatic, over ? " *" : "", m.tuned, slower ? " *" : "",
+           m.ns[MEMCPY] / messages);
+    fflush(NULL);
+}
+
+static const char *const packings[3] = {"single", "multiple", "streaming"};
+
+static void usb_rows(job j, const char *name, double budget)
+{
+    for (uint32_t header = 1; header <= 4; header += 3)
+        for (uint32_t packing = SINGLE; packing <= STREAMING; packing++)
+            for (int size = 0; size < 3; size++) {
+                xcp_usb_setting s = {header, packing, 4, 512, header == 1 ? 255 : 65535, 0};
+                uint32_t least = 1, most = size == 0 ? 8 : 64;
+                const char *sizes = size == 0 ? "1-8" : "1-64";
+                if (size == 2 && header == 1) {
+                    least = 200, most = 255, sizes = "200-255";
+                } else if (size == 2 && packing == STREAMING) {
+                    least = 1000, most = 60000, sizes = "1000-60000";
+                } else if (size == 2) {
+                    s.data_packet = 1024;
+                    least = 1000, most = 1020, sizes = "1000-1020";
+                }
+                seed = 88172645463325252u + header * 100 + packing * 10 + (uint32_t)size;
+                if (!make_usb(s, least, most, j == USB_READ)) {
+                    printf("%s: no transfer was made\n", sizes);
+                    differ = 1;
+                    continue;
+                }
+                char setting[32];
+                int k = 0;
+                setting[k++] = (char)('0' + header);
+                setting[k++] = ' ';
+                for (const char *p = packings[packing]; *p; p++)
+                    setting[k++] = *p;
+                setting[k] = 0;
+                row(j, name, setting, sizes, budget);
+            }
+}
+
+static void flexray_rows(double budget)
+{
+    static const char *const sizes[3] = {"1-8", "1-64", "200-251"};
+    static const uint32_t from[3] = {1, 1, 200}, to[3] = {8, 64, 251};
+    xcp_flexray_setting s = {7, 0, FRAME, 7, 1};
+    for (int j = FLEXRAY_READ; j <= FLEXRAY_WRITE; j++)
+        for (int size = 0; size < 3; size++) {
+            seed = 362436069u + (uint32_t)size;
+            if (!make_flexray(s, from[size], to[size])) {
+                printf("FlexRay: no frame was made\n");
+                differ = 1;
+                continue;
+            }
+            row((job)j, j == FLEXRAY_READ ? "FlexRay read" : "FlexRay write", "7", sizes[size], budget);
+        }
+}
+
+/* The same packets as 16 transfers, 8, and so on to one, by turns: the time for one message should not grow with the transfer. */
+static void lengths_table(double budget)
+{
+    enum { LINES = 5, TURNS = 15 };
+    static double reads[LINES][TURNS], writes[LINES][TURNS], bytes[LINES], messages[LINES];
+    for (int turn = 0; turn < TURNS; turn++)
+        for (int line = 0; line < LINES; line++) {
+            size_t parts = 16u >> line;
+            xcp_usb_setting s = {4, STREAMING, 4, 512, 65535, 0};
+            seed = 521288629u;
+            if (!make_parts(s, 64, 128, 2560, parts) || !agree(USB_READ) || !agree(USB_WRITE)) {
+                printf("%lu transfers: the answers differ\n", (unsigned long)parts);
+                differ = 1;
+                return;
+            }
+            bytes[line] = (double)it.n / (double)parts;
+            messages[line] = (double)it.count / (double)parts;
+            reads[line][turn] = measure(USB_READ, budget / TURNS).ns[OURS] / (double)parts;
+            writes[line][turn] = measure(USB_WRITE, budget / TURNS).ns[OURS] / (double)parts;
+        }
+    printf("\n| transfer, bytes | messages | read, us | read, ns/message | write, us | write, ns/message |\n|---|---|---|---|---|---|\n");
+    for (int line = 0; line < LINES; line++) {
+        double r = median(reads[line], TURNS), w = median(writes[line], TURNS);
+        printf("| %.0f | %.0f | %.2f | %.2f | %.2f | %.2f |\n", bytes[line], messages[line], r / 1e3, r / messages[line], w / 1e3,
+               w / messages[line]);
+    }
+}
+
+int main(int argc, char **argv)
+{
+    (void)argv;
+    int emulated = argc > 1;
+    double budget = emulated ? 0.5e9 : 0.8e9, start = now();
+
+    random_bytes(packets, TRANSFER);
+    for (size_t i = 0; i < TRANSFER; i += 3)
+        packets[i] |= 0xF8; /* so that every kind is frequent */
+    unsigned refused, cases = emulated ? 3000 : 30000;
+    unsigned bad = differing(cases, &refused);
+    printf("%u random writes and %u random reads, %u of them refused: %u differ\n\n", cases, cases, refused, bad);
+    if (bad != 0)
+        return 1;
+
+    random_bytes(packets, TRANSFER);
+    printf("| what | header, packing | packet bytes | bytes | messages | ours, ns/message | ours/idiomatic | ours/tuned "
+           "| memcpy, ns/message |\n|---|---|---|---|---|---|---|---|---|\n");
+    usb_rows(USB_READ, "USB read", budget);
+    usb_rows(USB_WRITE, "USB write", budget);
+    flexray_rows(budget);
+    printf("\n%d rows; over 0.8 of idiomatic: %d; over 1.0 of tuned: %d (each marked *)\n", rows_measured, misses_idiomatic,
+           misses_tuned);
+    lengths_table(budget);
+    printf("\n%.0f seconds\n", (now() - start) / 1e9);
+    return differ;
+}

@@ -1,0 +1,20 @@
+/* The two C implementations that the library is measured against. Their rules are those of include/plumagemud.h. */
+#ifndef BENCH_H
+#define BENCH_H
+
+#include "plumagemud.h"
+
+#define IMPLEMENTATION(name) \
+    xcp_read name##_usb_read(xcp_usb_setting s, const uint8_t *transfer, size_t n, xcp_counter c, \
+                             uint32_t *rows, size_t numbers); \
+    xcp_written name##_usb_write(xcp_usb_setting s, const uint8_t *packets, size_t n, const uint32_t *lengths, size_t count, \
+                                 uint32_t first, uint8_t fill, uint32_t fill_up, uint8_t *out, size_t room); \
+    xcp_read name##_flexray_read(xcp_flexray_setting s, const uint8_t *frame, size_t n, xcp_counter c, \
+                                 uint32_t *rows, size_t numbers); \
+    xcp_written name##_flexray_write(xcp_flexray_setting s, const uint8_t *packets, size_t n, const uint32_t *lengths, \
+                                     size_t count, uint32_t first, uint8_t fill, uint8_t *out, size_t room);
+
+IMPLEMENTATION(idiomatic)
+IMPLEMENTATION(tuned)
+
+#endif

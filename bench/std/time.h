@@ -1,0 +1,6 @@
+#ifndef STD_TIME_H
+#define STD_TIME_H
+struct timespec { long tv_sec, tv_nsec; };
+#define CLOCK_MONOTONIC 1
+int clock_gettime(int clock, struct timespec *now);
+#endif
