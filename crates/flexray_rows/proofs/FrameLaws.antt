@@ -1,5 +1,5 @@
 -- A frame's rows: the first, and those behind it, which carry no counter.
-use Prim.Native.Nat.{ℕ, _+_, _<_}
+use Prim.Native.Nat.{ℕ}
 use native.Mathlib.Omega.{arith}
 use mathlib.Core.Path.{_≡_, refl, sym, ap, _∙_}
 use mathlib.Core.Bool.{false}
@@ -20,8 +20,7 @@ use Rattle.packet.specs.Row.{row, numbers}
 use Rattle.packet.specs.Seen.{message}
 use Rattle.packet.proofs.RowLaws.{state-unread, state-unaltered}
 use Rattle.rows.specs.Ahead.{Crossed, Passed, Judging, Giving}
-use Rattle.rows.specs.Counters.{Sane}
-use Rattle.rows.specs.Fill.{Filled, Filled.filled, fillOf, filling}
+use Rattle.rows.specs.Fill.{Filled.filled, fillOf, filling}
 use Rattle.rows.specs.Rows.{Putting, Put}
 use Rattle.rows.proofs.CountLaws.{count-start}
 use Rattle.rows.proofs.FillLaws.{room-before}

@@ -1,16 +1,16 @@
 -- A rest and a message that are put byte by byte are those of the definitions.
-use Prim.Native.Nat.{ℕ, zero, suc, _+_, _-_, _<_, _≤_}
+use Prim.Native.Nat.{ℕ, zero, suc, _+_, _-_, _≤_}
 use native.Mathlib.Omega.{arith}
-use native.Mathlib.Nat.{zero-add, add-zero}
-use mathlib.Core.Path.{_≡_, refl, sym, ap, _∙_}
-use mathlib.Core.Bool.{Bool, true, false, _||_}
-use mathlib.Core.List.{List, [], _∷_, _++_, map}
-use lib.ListN.{length, getD, take, drop, replicate, length-replicate}
+use native.Mathlib.Nat.{zero-add}
+use mathlib.Core.Path.{_≡_, refl, sym, _∙_}
+use mathlib.Core.Bool.{true, false, _||_}
+use mathlib.Core.List.{List, [], _++_}
+use lib.ListN.{length, take, drop, replicate, length-replicate}
 use lib.Seq.{sets, sets-eq}
 use lib.Dec.{eqb, ltb}
 use borrow.Author.Tests.{ltb-false}
 use Rattle.layout.specs.declared.Shape.{Shape}
-use Rattle.layout.specs.Field.{width, bytes, values, shape, puts, Name.LEN}
+use Rattle.layout.specs.Field.{bytes, values, shape, puts}
 use Rattle.layout.specs.Multiple.{pad}
 use Rattle.layout.proofs.FieldLaws.{length-bytes, length-puts}
 use Rattle.layout.proofs.TableLaws.{alike}

@@ -11,7 +11,7 @@ use Rattle.packet.specs.declared.At.{At}
 use Rattle.packet.specs.Counter.{holds, later}
 use Rattle.packet.specs.Limit.{mostBytes}
 use Rattle.packet.specs.Packets.{sum, packets, first}
-use Rattle.usb.specs.Setting.{fields, W, whole}
+use Rattle.usb.specs.Setting.{fields, whole}
 use Rattle.usb.specs.Writing.{misfit, write}
 use Rattle.usb_plan.specs.declared.Plan.{Plan}
 use Rattle.usb_plan.specs.Plan.{setting, Ready}

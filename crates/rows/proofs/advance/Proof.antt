@@ -1,4 +1,3 @@
-use borrow.Author.Needs.{needs}
 use Rattle.rows.proofs.CounterLaws.{said, advance-none, advance-some}
 use Rattle.rows.proofs.advance.Statement.{statement}
 use Rattle.rows.proofs.advance.Tie as tie

@@ -2,7 +2,7 @@
 use Prim.Native.Nat.{_+_, _-_, _≤_}
 use native.Mathlib.Omega.{arith}
 use mathlib.Core.Path.{_≡_, refl}
-use lib.ListN.{length, replicate}
+use lib.ListN.{replicate}
 use borrow.Author.Needs.{needs}
 use Rattle.store.proofs.StoreLaws.{Left, left-start, left-next, left-none, replicate-next, replicate-none}
 use Rattle.store.proofs.fill.Statement.{statement}

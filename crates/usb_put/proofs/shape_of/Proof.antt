@@ -1,5 +1,4 @@
 use mathlib.Core.Path.{refl}
-use borrow.Author.Needs.{needs}
 use Rattle.usb_put.proofs.PutLaws.{shape-is}
 use Rattle.usb_put.proofs.shape_of.Statement.{statement}
 use Rattle.usb_put.proofs.shape_of.Tie as tie

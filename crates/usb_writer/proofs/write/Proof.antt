@@ -1,5 +1,4 @@
 -- The plan decides. In each answer f is the place behind `plan_for`, and m that behind the match.
-use mathlib.Core.Path.{ap}
 use borrow.Author.Needs.{needs}
 use Rattle.packet.proofs.AnswerLaws.{gives-so}
 use Rattle.usb_writer.proofs.WritesLaws.{unsound, as-given}
