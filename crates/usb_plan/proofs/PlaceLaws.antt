@@ -1,9 +1,12 @@
 -- Places, and the ends of their data packets.
 use Prim.Native.Nat.{ℕ, _+_, _-_, _*_, _/_, _%_, _<_, _≤_}
 use native.Mathlib.Omega.{arith}
-use native.Mathlib.Nat.{mod-lt, zero-mod, div-add-mod', div-mul-le-self, div-eq-of-lt-le, add-mul, one-mul}
+use native.Mathlib.Nat.{mod-lt, zero-mod, div-add-mod', div-mul-le-self, div-eq-of-lt-le, add-mul, one-mul, mul-mod-left}
 use mathlib.Core.Path.{_≡_, refl, ap, _∙_}
+use mathlib.Core.Bool.{Bool, true, false, cond}
+use lib.Dec.{ltb}
 use borrow.Author.Needs.{needs}
+use borrow.Author.Tests.{ltb-false}
 use Rattle.packet.specs.declared.At.{At}
 use Rattle.usb_plan.specs.declared.Plan.{Plan}
 use Rattle.usb_plan.specs.Plan.{Ready, Place, Onward, Moved}
@@ -32,12 +35,36 @@ reached : {p : Plan} {a : At} {next end : ℕ} → Onward p a next → end ≡ n
     → Moved p next (record { q = next; end = end })
 reached {p} {a} {next} o e = record { is = ap (λ (k : ℕ). record { q = next; end = k }) e; there = refl; place = placed p (o .ready) next e }
 
--- short of the end, and past it
-pub stayed : {p : Plan} {a : At} {next : ℕ} → Onward p a next → next < a .end → Moved p next (record { q = next; end = a .end })
-stayed {p} {a} {next} o l =
-    let e = o .place .end in
-    let s = same-end (p .datapacket) (a .q) next (omega (arith, o .ready .cut-least)) (omega (arith, o .on)) (omega arith) in
-    reached o (e ∙ s)
+-- the end of a data packet is the start of the next one
+end-starts : (m q : ℕ) → 0 < m → (q + (m - q % m)) % m ≡ 0
+end-starts m q h =
+    let e : q + (m - q % m) ≡ (q / m + 1) * m = omega (arith, add-mul (q / m) 1 m, one-mul m, div-add-mod' q m, mod-lt q h) in
+    rw e (mul-mod-left (q / m + 1) m)
+
+pub starts : {p : Plan} {a : At} → Ready p → Place p a → a .end % p .datapacket ≡ 0
+starts {p} {a} k h = rw (h .end) (end-starts (p .datapacket) (a .q) (omega (arith, k .cut-least)))
+
+-- short of the end of the data packet, or of the next one
+pub within-next : {p : Plan} {a : At} {next : ℕ} → Onward p a next → {end : ℕ} → end ≡ cond (ltb next (a .end)) (a .end) (a .end + p .datapacket)
+    → next < end → Moved p next (record { q = next; end = end })
+within-next {p} {a} {next} o {end} e l = at (ltb next (a .end)) refl
+  where
+    m : ℕ
+    m = p .datapacket
+
+    some : 0 < m
+    some = omega (arith, o .ready .cut-least)
+
+    at : (b : Bool) → ltb next (a .end) ≡ b → Moved p next (record { q = next; end = end })
+    at true t =
+        let x : end ≡ a .end = e ∙ rw t in
+        reached o (x ∙ o .place .end ∙ same-end m (a .q) next some (omega (arith, o .on)) (omega (arith, o .place .end)))
+    at false f =
+        let x : end ≡ a .end + m = e ∙ rw f in
+        let z : a .end % m ≡ 0 = starts (o .ready) (o .place) in
+        let s : a .end + (m - a .end % m) ≡ next + (m - next % m) =
+        same-end m (a .end) next some (ltb-false next (a .end) f) (omega (arith, z)) in
+        reached o (x ∙ (omega (arith, z) ∙ s))
 
 pub past-end : {p : Plan} {a : At} {next : ℕ} → Onward p a next
     → Moved p next (record { q = next; end = next + (p .datapacket - next % p .datapacket) })

@@ -7,6 +7,7 @@ use layout::Shape;
 use layout::all;
 use layout::both;
 use layout::either;
+use layout::pick;
 use layout::rounded;
 use packet::At;
 use usb::Setting;
@@ -116,16 +117,15 @@ pub fn whole(p: Plan, n: usize) -> usize
     rounded(p.align, p.size + n)
 }
 
-// A later place: a division only where the end of a data packet was crossed.
+// A later place. One end of a data packet between is passed without a branch, since none can foresee where the messages of a stream end;
+// a division only where there are more.
 pub fn on(p: Plan, a: At, next: usize) -> At
     requires { ⌜ Onward p a next ⌝ }
     ensures { λ r. ⌜ Moved p next r ⌝ }
 {
-    if next < a.end {
-        return At {
-            q: next,
-            end: a.end,
-        };
+    let end = pick(next < a.end, a.end, a.end + p.datapacket);
+    if next < end {
+        return At { q: next, end };
     }
     At {
         q: next,
