@@ -58,7 +58,7 @@ module _ (s : Setting) (o left n : ℕ) where
           message (opened ga gb) (omega (arith, eqb-false n 0 gc)) (ltb-false (s .longest) n ge) (ltb-false (room s o left) (whole s n) gf)
 
   -- the tests before LEN, where something stands
-  front : Open s o left → eqb (s .packing) 0 && ltb 0 o ≡ false
+  pub front : Open s o left → eqb (s .packing) 0 && ltb 0 o ≡ false
   front h = at (eqb (s .packing) 0) refl
     where
       at : (b : Bool) → eqb (s .packing) 0 ≡ b → b && ltb 0 o ≡ false

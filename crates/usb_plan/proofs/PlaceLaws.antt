@@ -6,7 +6,7 @@ use mathlib.Core.Path.{_≡_, refl, ap, _∙_}
 use mathlib.Core.Bool.{Bool, true, false, cond}
 use lib.Dec.{ltb}
 use borrow.Author.Needs.{needs}
-use borrow.Author.Tests.{ltb-false}
+use borrow.Author.Tests.{ltb-true, ltb-false}
 use Rattle.packet.specs.declared.At.{At}
 use Rattle.usb_plan.specs.declared.Plan.{Plan}
 use Rattle.usb_plan.specs.Plan.{Ready, Place, Onward, Moved}
@@ -41,30 +41,29 @@ end-starts m q h =
     let e : q + (m - q % m) ≡ (q / m + 1) * m = omega (arith, add-mul (q / m) 1 m, one-mul m, div-add-mod' q m, mod-lt q h) in
     rw e (mul-mod-left (q / m + 1) m)
 
-pub starts : {p : Plan} {a : At} → Ready p → Place p a → a .end % p .datapacket ≡ 0
-starts {p} {a} k h = rw (h .end) (end-starts (p .datapacket) (a .q) (omega (arith, k .cut-least)))
+module _ {p : Plan} {a : At} (k : Ready p) (h : Place p a) where
+  some : 0 < p .datapacket
+  some = omega (arith, k .cut-least)
 
--- short of the end of the data packet, or of the next one
+  pub starts : a .end % p .datapacket ≡ 0
+  starts = rw (h .end) (end-starts (p .datapacket) (a .q) some)
+
+  -- short of the end of the data packet, and of the next one
+  pub same-packet : {next : ℕ} → a .q ≤ next → next < a .end → a .end ≡ next + (p .datapacket - next % p .datapacket)
+  same-packet {next} l u = h .end ∙ same-end (p .datapacket) (a .q) next some l (omega (arith, h .end))
+
+  next-packet : {next : ℕ} → a .end ≤ next → next < a .end + p .datapacket → a .end + p .datapacket ≡ next + (p .datapacket - next % p .datapacket)
+  next-packet {next} l u = omega (arith, starts, same-end (p .datapacket) (a .end) next some l (omega (arith, starts)))
+
 pub within-next : {p : Plan} {a : At} {next : ℕ} → Onward p a next → {end : ℕ} → end ≡ cond (ltb next (a .end)) (a .end) (a .end + p .datapacket)
     → next < end → Moved p next (record { q = next; end = end })
-within-next {p} {a} {next} o {end} e l = at (ltb next (a .end)) refl
+within-next {p} {a} {next} o {end} e l = reached o (at (ltb next (a .end)) refl)
   where
-    m : ℕ
-    m = p .datapacket
-
-    some : 0 < m
-    some = omega (arith, o .ready .cut-least)
-
-    at : (b : Bool) → ltb next (a .end) ≡ b → Moved p next (record { q = next; end = end })
-    at true t =
-        let x : end ≡ a .end = e ∙ rw t in
-        reached o (x ∙ o .place .end ∙ same-end m (a .q) next some (omega (arith, o .on)) (omega (arith, o .place .end)))
+    at : (b : Bool) → ltb next (a .end) ≡ b → end ≡ next + (p .datapacket - next % p .datapacket)
+    at true t = (e ∙ rw t) ∙ same-packet (o .ready) (o .place) (omega (arith, o .on)) (ltb-true next (a .end) t)
     at false f =
-        let x : end ≡ a .end + m = e ∙ rw f in
-        let z : a .end % m ≡ 0 = starts (o .ready) (o .place) in
-        let s : a .end + (m - a .end % m) ≡ next + (m - next % m) =
-        same-end m (a .end) next some (ltb-false next (a .end) f) (omega (arith, z)) in
-        reached o (x ∙ (omega (arith, z) ∙ s))
+        let x : end ≡ a .end + p .datapacket = e ∙ rw f in
+        x ∙ next-packet (o .ready) (o .place) (ltb-false next (a .end) f) (omega arith)
 
 pub past-end : {p : Plan} {a : At} {next : ℕ} → Onward p a next
     → Moved p next (record { q = next; end = next + (p .datapacket - next % p .datapacket) })

@@ -13,6 +13,7 @@ use packet::Seen;
 use rows::Judged;
 use rows::put;
 use usb_plan::Plan;
+use usb_step::find;
 use usb_step::see;
 
 // Judges a whole transfer, and writes nothing.
@@ -44,7 +45,8 @@ pub fn judge(p: Plan, t: &[u8]) -> Judged
     }
 }
 
-// Writes the rows of a transfer that was judged and has room, and gives the state behind them. No rule is tested again.
+// Writes the rows of a transfer that was judged and has room, and gives the state behind them. No rule is tested again. The state's two numbers
+// are kept apart, so that a turn need not wait for the whole state of the one before.
 pub fn fill(p: Plan, t: &[u8], first: Counter, rows: &mut [u32]) -> Counter
     requires { ⌜ Fillable p (now t) first (length (now rows)) ⌝ }
     ensures { λ r. ⌜ filled (now (rows .exit)) r
@@ -55,11 +57,15 @@ pub fn fill(p: Plan, t: &[u8], first: Counter, rows: &mut [u32]) -> Counter
         end: p.datapacket,
     };
     let mut i: usize = 0;
-    let mut c = first;
+    let mut known = first.known;
+    let mut expected = first.expected;
     loop {
-        match see(p, t, a) {
+        match find(p, t, a) {
             Seen::Message(m, next) => {
-                c = put(p.direction, p.ctrwidth, t, c, m, rows, i);
+                let c = Counter { known, expected };
+                let c = put(p.direction, p.ctrwidth, t, c, m, rows, i);
+                known = c.known;
+                expected = c.expected;
                 i += 5;
                 a = next;
             }
@@ -67,10 +73,10 @@ pub fn fill(p: Plan, t: &[u8], first: Counter, rows: &mut [u32]) -> Counter
                 a = next;
             }
             Seen::Refused(_, _) => {
-                return c;
+                return Counter { known, expected };
             }
             Seen::Nothing => {
-                return c;
+                return Counter { known, expected };
             }
         }
     }

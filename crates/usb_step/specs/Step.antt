@@ -1,17 +1,19 @@
 -- What the step asks and tells: what was measured and found at a place, and what is ahead behind it.
-use Prim.Native.Nat.{ℕ, _+_, _-_, _%_, _^_, _<_, _≤_}
+use Prim.Native.Nat.{ℕ, _+_, _-_, _^_, _<_, _≤_}
 use mathlib.Core.Path.{_≡_}
+use mathlib.Core.Bool.{cond}
 use mathlib.Core.List.{List}
 use lib.ListN.{length}
+use lib.Dec.{eqb}
 use Rattle.layout.specs.Field.{says, Name.CTR}
 use Rattle.packet.specs.declared.At.{At}
 use Rattle.packet.specs.declared.Found.{Found}
 use Rattle.packet.specs.declared.Seen.{Seen}
 use Rattle.rows.specs.Ahead.{Sees}
 use Rattle.usb.specs.Setting.{fields, H, whole}
-use Rattle.usb.specs.Reading.{space, lenAt, seen, ahead}
+use Rattle.usb.specs.Reading.{space, lenAt, ahead}
 use Rattle.usb_plan.specs.declared.Plan.{Plan}
-use Rattle.usb_plan.specs.Plan.{setting, Ready}
+use Rattle.usb_plan.specs.Plan.{setting, Ready, Onward, Moved}
 use Rattle.usb_step.specs.declared.Sizes.{Sizes}
 use Rattle.usb_step.specs.Place.{Standing}
 
@@ -29,7 +31,6 @@ pub record Len (p : Plan) (t : List ℕ) (q r : ℕ) : Type 0 where
 
 pub record Measured (p : Plan) (t : List ℕ) (a : At) (m : Sizes) : Type 0 where
   pub standing : Standing p t a
-  pub room : m .room ≡ p .datapacket - a .q % p .datapacket
   pub left : m .left ≡ length t - a .q
   pub space : m .space ≡ space (setting p) t (a .q)
   pub rest : m .rest ≡ a .q + m .space
@@ -54,9 +55,16 @@ pub record FoundAt (p : Plan) (t : List ℕ) (a : At) (m : Sizes) (f : Found) : 
   pub len : f .len ≡ m .len
   pub counter : f .ctr < 256 ^ p .ctrwidth
 
+-- both places behind a message lie ahead
+pub record Going (p : Plan) (a : At) (m : Sizes) : Type 0 where
+  pub rest : Onward p a (m .rest)
+  pub next : Onward p a (m .next)
+
+-- the place behind it
+abbrev pub Behind : Plan → Sizes → At → Type 0
+Behind p m b = Moved p (cond (eqb (p .packing) 0) (m .rest) (m .next)) b
+
 ---- What is ahead --------------------------------------------------------------------------------------------------------------
 
--- the step's answer is the definition's, and with it what a loop goes on by
 pub record Saw (p : Plan) (t : List ℕ) (a : At) (r : Seen) : Type 0 where
-  pub is : r ≡ seen (setting p) t (a .q)
   pub ahead : Sees (ahead (setting p) t) (Standing p t) t (p .ctrwidth) a r

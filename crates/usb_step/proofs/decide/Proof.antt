@@ -6,4 +6,4 @@ returns : tie.Need-returns
 returns c = cc
 
 pub decide-spec : {M : Type 1} → statement M
-decide-spec = tie.close (tie.spec (λ c κs. search needs) (λ c κs. search needs) (λ c κs. search needs) returns)
+decide-spec = tie.close (tie.spec (λ c κs. search needs) (λ c κs. search needs) returns)

@@ -1,6 +1,6 @@
 -- The step: what was measured and decided is what stands there, and what is ahead. In each answer d is the place behind `decide`.
 use borrow.Author.Needs.{needs}
-use Rattle.usb_step.proofs.StepLaws.{sees-nothing, sees-refused, rest-on, sees-rest, fitting, message-on, sees-message}
+use Rattle.usb_step.proofs.StepLaws.{sees-nothing, sees-refused, rest-on, sees-rest, fitting, going, sees-message}
 use Rattle.usb_step.proofs.see.Statement.{statement}
 use Rattle.usb_step.proofs.see.Tie as tie
 
@@ -9,18 +9,18 @@ message-fits c κs =
     let d = c .before .before in
     fitting (d .before .measure .ensures) (d .decide .ensures) (c .enum-told .given .1)
 
-message-goes : tie.Need-on-requires
+message-goes : tie.Need-behind-requires
 message-goes c κs =
     let d = c .before .before .before in
-    message-on (d .before .measure .ensures) (d .decide .ensures) (c .before .enum-told .given .1)
+    going (d .before .measure .ensures) (d .decide .ensures) (c .before .enum-told .given .1)
 
 message : tie.Need-returns
 message c =
     let f = c .before in
     let d = f .before .before .before in
-    sees-message (d .before .measure .ensures) (d .decide .ensures) (f .before .enum-told .given .1) (f .message-at .ensures) (c .on .ensures)
+    sees-message (d .before .measure .ensures) (d .decide .ensures) (f .before .enum-told .given .1) (f .message-at .ensures) (c .behind .ensures)
 
-rest-goes : tie.Need-on-requires-2
+rest-goes : tie.Need-on-requires
 rest-goes c κs =
     let d = c .before .before in
     rest-on (d .before .measure .ensures) (d .decide .ensures) (c .enum-told2 .given .1)
@@ -28,7 +28,7 @@ rest-goes c κs =
 rest : tie.Need-returns-2
 rest c =
     let d = c .before .before .before in
-    sees-rest (d .before .measure .ensures) (d .decide .ensures) (c .before .enum-told2 .given .1) (c .on2 .ensures)
+    sees-rest (d .before .measure .ensures) (d .decide .ensures) (c .before .enum-told2 .given .1) (c .on .ensures)
 
 refused : tie.Need-returns-3
 refused c =
