@@ -1,15 +1,15 @@
 -- Counters of no, one and two bytes, as the code counts them.
-use Prim.Native.Nat.{ℕ, _+_, _%_, _^_, _<_}
+use Prim.Native.Nat.{ℕ, suc, _+_, _%_, _^_, _<_}
 use native.Mathlib.Omega.{arith}
 use native.Mathlib.Nat.{mod-lt}
-use mathlib.Core.Path.{_≡_, refl}
+use mathlib.Core.Path.{_≡_, refl, sym, _∙_}
 use mathlib.Core.Bool.{Bool, true, false, cond, _||_}
 use lib.Dec.{eqb}
-use borrow.Author.Tests.{eq-eqb, ne-eqb}
+use borrow.Author.Tests.{eqb-true, eq-eqb, ne-eqb}
 use Rattle.packet.specs.declared.Counter.{Counter}
 use Rattle.packet.specs.Counter.{valid, difference, gap, next, later, advance}
 use Rattle.packet.proofs.CounterLaws.{held}
-use Rattle.rows.specs.Counters.{Apart, Said, After, Sane, Counted, Advanced}
+use Rattle.rows.specs.Counters.{Apart, Parted, Said, After, Sane, Counted, Advanced}
 
 pub in-byte : {w n : ℕ} → w ≡ 1 → n < 256 ^ w → n < 256
 in-byte e h = rw e at h
@@ -19,6 +19,11 @@ in-two e h = rw e at h
 
 pub apart-none : {w : ℕ} → w ≡ 0 → (n e : ℕ) → 0 ≡ difference w n e
 apart-none z n e = rw z (omega arith)
+
+pub some-apart : {w n e : ℕ} → Parted w n e → (k : ℕ) → w ≡ suc k → Apart (suc k) n e
+some-apart {w} {n} {e} h k z =
+    let a : Apart w n e = record { narrow = h .narrow; received = h .received; expected = h .expected (omega arith) } in
+    rw z at a
 
 -- the counter after n
 module _ {w n : ℕ} (h : Said w n) where
@@ -48,10 +53,6 @@ sane {w} {c} e = record { below = λ u v. held w (c .expected) (rw (ne-eqb (c .k
 
 -- gaps and states
 module _ {w : ℕ} {c : Counter} {n : ℕ} (h : Counted w c n) where
-  pub gap-none : w ≡ 0 → 0 ≡ gap w c n
-  unfolding gap
-  gap-none e = rw e
-
   pub gap-fresh : c .known ≡ 0 → 0 ≡ gap w c n
   unfolding gap
   gap-fresh e = rw (eq-eqb (c .known) 0 e) (at (eqb w 0))
@@ -60,12 +61,16 @@ module _ {w : ℕ} {c : Counter} {n : ℕ} (h : Counted w c n) where
       at true = refl
       at false = refl
 
-  pub expected : (w ≡ 0 → ⊥) → (c .known ≡ 0 → ⊥) → Apart w n (c .expected)
-  expected f g = record { narrow = h .narrow; received = h .below; expected = h .sane .below (omega (arith, f)) (omega (arith, g)) }
+  pub expected : (c .known ≡ 0 → ⊥) → Parted w n (c .expected)
+  expected g = record { narrow = h .narrow; received = h .below; expected = λ u. h .sane .below u (omega (arith, g)) }
 
-  pub gap-known : (w ≡ 0 → ⊥) → (c .known ≡ 0 → ⊥) → {r : ℕ} → r ≡ difference w n (c .expected) → r ≡ gap w c n
+  pub gap-known : (c .known ≡ 0 → ⊥) → {r : ℕ} → r ≡ difference w n (c .expected) → r ≡ gap w c n
   unfolding gap
-  gap-known f g e = rw (ne-eqb w 0 f, ne-eqb (c .known) 0 g) e
+  gap-known g {r} e = rw (ne-eqb (c .known) 0 g) (at (eqb w 0) refl)
+    where
+      at : (b : Bool) → eqb w 0 ≡ b → r ≡ cond (b || false) 0 (difference w n (c .expected))
+      at true z = e ∙ sym (apart-none (eqb-true w 0 z) n (c .expected))
+      at false z = e
 
   pub said : Said w n
   said = record { narrow = h .narrow; below = λ u. h .below }

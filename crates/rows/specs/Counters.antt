@@ -13,6 +13,12 @@ pub record Apart (w n e : ℕ) : Type 0 where
   pub received : n < 256 ^ w
   pub expected : e < 256 ^ w
 
+-- .. where there may be none
+pub record Parted (w n e : ℕ) : Type 0 where
+  pub narrow : w ≤ 2
+  pub received : n < 256 ^ w
+  pub expected : 0 < w → e < 256 ^ w
+
 -- a counter that a message can say; any number where there is none
 pub record Said (w n : ℕ) : Type 0 where
   pub narrow : w ≤ 2

@@ -10,7 +10,7 @@ ghost use Rattle.packet.specs.Counter.{difference, gap as gapOf, holds as holds
 ghost use Rattle.packet.specs.Limit.{Short};
 ghost use Rattle.packet.specs.Row.{row, numbers};
 ghost use Rattle.packet.specs.Seen.{message};
-ghost use Rattle.rows.specs.Counters.{Narrow, Apart, Said, After, Counted, Advanced};
+ghost use Rattle.rows.specs.Counters.{Narrow, Apart, Parted, Said, After, Counted, Advanced};
 ghost use Rattle.rows.specs.Rows.{Rowable, Putting, Put};
 use layout::either;
 use packet::Counter;
@@ -66,7 +66,7 @@ fn apart16(received: u32, expected: u32) -> u32
 
 // The same for a counter of so many bytes.
 fn apart(width: usize, received: u32, expected: u32) -> u32
-    requires { ⌜ Apart width received expected ⌝ }
+    requires { ⌜ Parted width received expected ⌝ }
     ensures { λ r. ⌜ r ≡ difference width received expected ⌝ }
 {
     match width {
@@ -76,14 +76,11 @@ fn apart(width: usize, received: u32, expected: u32) -> u32
     }
 }
 
-// The gap of a message with counter n.
+// The gap of a message with counter n, which is 0 without CTR.
 fn gap(width: usize, c: Counter, n: u32) -> u32
     requires { ⌜ Counted width c n ⌝ }
     ensures { λ r. ⌜ r ≡ gapOf width c n ⌝ }
 {
-    if width == 0 {
-        return 0;
-    }
     if c.known == 0 {
         return 0;
     }
@@ -96,9 +93,9 @@ pub fn after(width: usize, n: u32) -> u32
     ensures { λ r. ⌜ After width n r ⌝ }
 {
     match width {
-        0 => n,
         1 => (n + 1) % 256,
-        _ => (n + 1) % 65536,
+        2 => (n + 1) % 65536,
+        _ => n,
     }
 }
 

@@ -1,5 +1,5 @@
 use borrow.Author.Needs.{needs}
-use Rattle.rows.proofs.CounterLaws.{apart-none}
+use Rattle.rows.proofs.CounterLaws.{apart-none, some-apart}
 use Rattle.rows.proofs.apart.Statement.{statement}
 use Rattle.rows.proofs.apart.Tie as tie
 
@@ -15,4 +15,4 @@ none c = apart-none (search needs) _ _
 pub apart-spec : {M : Type 1} → statement M
 apart-spec =
     tie.close
-    (tie.spec (λ c κs. rw (c .match .keys1) at (c .before .pre)) (λ c κs. rw (c .match .keys2) at (c .before .pre)) byte two none)
+    (tie.spec (λ c κs. some-apart (c .before .pre) 0 (c .match .keys1)) (λ c κs. some-apart (c .before .pre) 1 (c .match .keys2)) byte two none)
