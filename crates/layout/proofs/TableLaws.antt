@@ -37,8 +37,8 @@ beyond (suc k) n (h, other) = ⊎-elim (λ e. absurd (other (sym e))) (λ l. l) 
 
 -- what a match answers of the entry of a number: in the arm of k, and in the last arm, for what stands for no entry
 module _ {A B : Type 0} (f : A → B) (d : A) (xs : List A) where
-  pub in-arm : {n : ℕ} {r : B} (k : ℕ) → n ≡ k → r ≡ f (getD xs k d) → r ≡ f (getD xs n d)
-  in-arm k e h = rw e h
+  pub in-arm : {n k : ℕ} {r : B} → n ≡ k → r ≡ f (getD xs k d) → r ≡ f (getD xs n d)
+  in-arm e h = rw e h
 
   pub in-last-arm : (n : ℕ) → NoneOf (length xs) n → f d ≡ f (getD xs n d)
   in-last-arm n h = rw (List·getD-eq-default xs d {n = n} (beyond (length xs) n h))
