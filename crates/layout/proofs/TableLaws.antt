@@ -1,27 +1,15 @@
--- A table is right where it is what a rule gives for each number below its length: one computed equation, cited at each number.
-use Prim.Native.Nat.{ℕ, zero, suc, _+_, _<_}
+-- Tables: a test of all entries that is computed once, and what a match with an arm for each number answers.
+use Prim.Native.Nat.{ℕ, zero, suc, _<_, _≤_}
 use native.Mathlib.Omega.{arith}
-use native.Mathlib.Nat.{zero-add, add-zero, add-suc, suc-add}
-use mathlib.Core.Path.{_≡_, ap, _∙_}
+use native.Mathlib.Nat.{eq-or-lt-of-le}
+use mathlib.Core.Path.{_≡_, sym}
+use mathlib.Core.Logic.{⊎-elim}
 use mathlib.Core.Bool.{Bool, true, _&&_}
 use mathlib.Core.List.{List, [], _∷_, map}
-use lib.ListN.{length, getD}
+use lib.ListN.{length, getD, List·getD-eq-default}
 use Rattle.layout.proofs.TestLaws.{and-left, and-right}
 
 module _ {A : Type 0} where
-  -- the rule at n numbers from i on
-  abbrev pub tabled : (ℕ → A) → ℕ → ℕ → List A
-  tabled f zero i = []
-  tabled f (suc n) i = f i ∷ tabled f n (suc i)
-
-  tabled-at : (f : ℕ → A) (d : A) (n i k : ℕ) → k < n → getD (tabled f n i) k d ≡ f (i + k)
-  tabled-at f d zero i k h = absurd (omega arith)
-  tabled-at f d (suc n) i zero h = rw add-zero
-  tabled-at f d (suc n) i (suc k) h = rw (add-suc, ← suc-add i k) (tabled-at f d n (suc i) k (omega arith))
-
-  pub at-table : (f : ℕ → A) (d : A) (n : ℕ) (xs : List A) → xs ≡ tabled f n 0 → (k : ℕ) → k < n → getD xs k d ≡ f k
-  at-table f d n xs e k h = rw e (tabled-at f d n 0 k h ∙ ap f (zero-add k))
-
   -- a test that every entry of a table passes
   abbrev pub all : (A → Bool) → List A → Bool
   all f [] = true
@@ -37,6 +25,23 @@ module _ {A : Type 0} where
   all-given f d [] i o e = o
   all-given f d (x ∷ xs) zero o e = and-left (f x) (all f xs) e
   all-given f d (x ∷ xs) (suc i) o e = all-given f d xs i o (and-right (f x) (all f xs) e)
+
+-- a number that is none of the first k, as a match says in its last arm
+abbrev pub NoneOf : ℕ → ℕ → Type 0
+NoneOf zero n = Unit {0}
+NoneOf (suc k) n = NoneOf k n × (n ≡ k → ⊥)
+
+beyond : (k n : ℕ) → NoneOf k n → k ≤ n
+beyond zero n h = omega arith
+beyond (suc k) n (h, other) = ⊎-elim (λ e. absurd (other (sym e))) (λ l. l) (eq-or-lt-of-le (beyond k n h))
+
+-- what a match answers of the entry of a number: in the arm of k, and in the last arm, for what stands for no entry
+module _ {A B : Type 0} (f : A → B) (d : A) (xs : List A) where
+  pub in-arm : {n k : ℕ} {r : B} → n ≡ k → r ≡ f (getD xs k d) → r ≡ f (getD xs n d)
+  in-arm e h = rw e h
+
+  pub in-last-arm : (n : ℕ) → NoneOf (length xs) n → f d ≡ f (getD xs n d)
+  in-last-arm n h = rw (List·getD-eq-default xs d {n = n} (beyond (length xs) n h))
 
 -- two rules that agree at every entry of a table, and at what stands for no entry, agree at every number
 pub alike : {A B : Type 0} (f g : A → B) (d : A) (xs : List A) (i : ℕ) → f d ≡ g d → map f xs ≡ map g xs → f (getD xs i d) ≡ g (getD xs i d)

@@ -40,34 +40,33 @@ pub fn wide32(n: u32) -> usize
     n as usize
 }
 
-// The number in a field of at most two bytes; 0 where it has none.
+// The number in a field of at most two bytes; 0 where it has none. One arm reads both bytes, so that they go as one.
 pub fn field(t: &[u8], at: usize, width: usize) -> usize
     requires { ⌜ Within (now t) at width ⌝ }
     ensures { λ r. ⌜ Number (now (t .entry)) at width r ⌝ }
 {
-    if width == 0 {
-        return 0;
+    match width {
+        1 => wide(t[at]),
+        2 => wide(t[at]) + 256 * wide(t[at + 1]),
+        _ => 0,
     }
-    let low = wide(t[at]);
-    if width == 1 {
-        return low;
-    }
-    low + 256 * wide(t[at + 1])
 }
 
-// Puts a number into a field of at most two bytes; what does not fit is left out.
+// Puts a number into a field of at most two bytes; what does not fit is left out. One arm puts both bytes, as above.
 pub fn put_field(out: &mut [u8], at: usize, width: usize, n: usize)
     requires { ⌜ Within (now out) at width ⌝ }
     ensures { λ _. ⌜ now (out .exit) ≡ sets (now (out .entry)) at (bytes width n) ⌝ }
 {
-    if width == 0 {
-        return;
+    match width {
+        1 => {
+            out[at] = (n % 256) as u8;
+        }
+        2 => {
+            out[at] = (n % 256) as u8;
+            out[at + 1] = (n / 256 % 256) as u8;
+        }
+        _ => {}
     }
-    out[at] = (n % 256) as u8;
-    if width == 1 {
-        return;
-    }
-    out[at + 1] = (n / 256 % 256) as u8;
 }
 
 // Tests joined by a call: a caller keeps what each test says, which `&&` and `||` lose where their branches meet.
@@ -111,15 +110,12 @@ pub fn pick(first: bool, a: usize, b: usize) -> usize
     b
 }
 
-// The least multiple of the alignment that is not below x: constant divisors, so that no division by a variable is left.
+// The least multiple of the alignment that is not below x. Alignments are powers of two, so a mask takes the rest off: no division, no branch.
 pub fn rounded(align: usize, x: usize) -> usize
     requires { ⌜ Roundable align x ⌝ }
     ensures { λ r. ⌜ Rounded align x r ⌝ }
 {
-    match align {
-        1 => x,
-        2 => (x + 1) / 2 * 2,
-        4 => (x + 3) / 4 * 4,
-        _ => (x + 7) / 8 * 8,
-    }
+    let up = align - 1;
+    let y = x + up;
+    y - (y & up)
 }

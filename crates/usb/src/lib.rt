@@ -36,20 +36,31 @@ const LINES: [Line; 6] = [
     Line(4, 0, 2, 4, 0),
 ];
 
-// The shape of a header by its number; a number beyond the table has no field.
+// The shape that a line says.
+fn shaped(l: Line) -> Shape
+    ensures { λ r. ⌜ r ≡ record { size = l .0; lenat = l .1; lenwidth = l .2; ctrat = l .3; ctrwidth = l .4 } ⌝ }
+{
+    Shape {
+        size: l.0,
+        lenat: l.1,
+        lenwidth: l.2,
+        ctrat: l.3,
+        ctrwidth: l.4,
+    }
+}
+
+// The shape of a header by its number; a number beyond the table has no field. Each arm reads a line that is known, so that it is
+// a constant: a line by a number that is not known would have the table built at each call.
 pub fn shape(header: u32) -> Shape
     ensures { λ r. ⌜ r ≡ shapeOf (headerOf header) ⌝ }
 {
-    let i = header as usize;
-    if i < 6 {
-        let l = LINES[i];
-        return Shape {
-            size: l.0,
-            lenat: l.1,
-            lenwidth: l.2,
-            ctrat: l.3,
-            ctrwidth: l.4,
-        };
+    match header {
+        0 => shaped(LINES[0]),
+        1 => shaped(LINES[1]),
+        2 => shaped(LINES[2]),
+        3 => shaped(LINES[3]),
+        4 => shaped(LINES[4]),
+        5 => shaped(LINES[5]),
+        _ => Shape::NONE,
     }
-    Shape::NONE
 }

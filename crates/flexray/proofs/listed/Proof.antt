@@ -1,36 +1,36 @@
--- The one equation of the whole table is computed: each line is what the header of that number comes to.
-use mathlib.Core.Path.{refl, ap}
-use lib.ListN.{List·getD-eq-default}
-use native.Mathlib.Omega.{arith}
+-- Each line is what the header of its number comes to, which is computed.
+use mathlib.Core.List.{[]}
 use borrow.Author.Needs.{needs}
-use Rattle.layout.proofs.TableLaws.{at-table}
-use Rattle.flexray.specs.declared.Entry.{Entry}
-use Rattle.flexray.specs.declared.Line.{Line}
-use Rattle.flexray.specs.Setting.{headers, header}
+use Rattle.layout.proofs.TableLaws.{in-arm, in-last-arm}
+use Rattle.flexray.specs.Setting.{Header, headers}
 use Rattle.flexray.specs.Table.{entry}
 use Rattle.flexray.proofs.listed.Statement.{statement}
 use Rattle.flexray.proofs.listed.Tie as tie
 
-abbrev line : Entry → Line
-line e =
-    let s = e .shape in
-    record { 0 = s .size; 1 = s .lenat; 2 = s .lenwidth; 3 = s .ctrat; 4 = s .ctrwidth; 5 = e .least; 6 = e .most }
-
-abbrev back : Line → Entry
-back l =
-    record {
-      shape = record { size = l .0; lenat = l .1; lenwidth = l .2; ctrat = l .3; ctrwidth = l .4 };
-      least = l .5;
-      most = l .6;
-    }
-
-known : tie.Need-returns
-unfolding headers
-known c = ap back (at-table (λ n. line (entry (header n))) _ 9 _ refl (c .before .before .args .header) (omega arith))
-
-unknown : tie.Need-returns-2
-unfolding headers
-unknown c = simp (List·getD-eq-default headers (header 9) {n = c .before .args .header} (omega arith))
+abbrev none : Header
+none = record { fields = []; aligns = [] }
 
 pub listed-spec : {M : Type 1} → statement M
-listed-spec = tie.close (tie.spec (λ c. search needs) (λ c. search needs) known unknown)
+unfolding headers
+listed-spec =
+    tie.close
+    (tie.spec
+    (λ c. search needs) (λ c κs. search needs)
+    (λ c. search needs) (λ c κs. search needs)
+    (λ c. search needs) (λ c κs. search needs)
+    (λ c. search needs) (λ c κs. search needs)
+    (λ c. search needs) (λ c κs. search needs)
+    (λ c. search needs) (λ c κs. search needs)
+    (λ c. search needs) (λ c κs. search needs)
+    (λ c. search needs) (λ c κs. search needs)
+    (λ c. search needs) (λ c κs. search needs)
+    (λ c. in-arm entry none headers (c .before .before .match .keys1) (c .entered .ensures))
+    (λ c. in-arm entry none headers (c .before .before .match .keys2) (c .entered2 .ensures))
+    (λ c. in-arm entry none headers (c .before .before .match .keys3) (c .entered3 .ensures))
+    (λ c. in-arm entry none headers (c .before .before .match .keys4) (c .entered4 .ensures))
+    (λ c. in-arm entry none headers (c .before .before .match .keys5) (c .entered5 .ensures))
+    (λ c. in-arm entry none headers (c .before .before .match .keys6) (c .entered6 .ensures))
+    (λ c. in-arm entry none headers (c .before .before .match .keys7) (c .entered7 .ensures))
+    (λ c. in-arm entry none headers (c .before .before .match .keys8) (c .entered8 .ensures))
+    (λ c. in-arm entry none headers (c .before .before .match .keys9) (c .entered9 .ensures))
+    (λ c. in-last-arm entry none headers _ (c .match .rest)))

@@ -1,33 +1,21 @@
+-- The mask is one below a power of two, so it leaves the remainder; what is taken off the sum leaves the multiple next above x.
 use native.Mathlib.Omega.{arith}
-use mathlib.Core.Path.{_≡_}
-use mathlib.Core.Logic.{⊎-elim}
-use borrow.Author.Needs.{needs}
-use Rattle.layout.specs.Multiple.{pad}
+use lib.Bits.{and-le-l}
+use Rattle.layout.proofs.MultipleLaws.{aligned-power, masked}
 use Rattle.layout.proofs.rounded.Statement.{statement}
 use Rattle.layout.proofs.rounded.Tie as tie
 
-by-1 : tie.Need-returns
-unfolding pad
-by-1 c = simp (c .match .keys1) (record { is = omega arith; small = omega arith })
+sub-up : tie.Need-sub-up
+sub-up c = aligned-power (c .pre .aligned) .low
 
-by-2 : tie.Need-returns-2
-unfolding pad
-by-2 c = simp (c .match .keys2) (record { is = omega arith; small = omega arith })
+add-y : tie.Need-add-y
+add-y c = record { fits = omega (arith, aligned-power (c .pre .aligned) .high) }
 
-by-4 : tie.Need-returns-3
-unfolding pad
-by-4 c = simp (c .match .keys3) (record { is = omega arith; small = omega arith })
+sub-result : tie.Need-sub-result
+sub-result c = and-le-l _ _
 
-by-8 : tie.Need-returns-4
-unfolding pad
-by-8 c =
-    let (((u, no-1), no-2), no-4) = c .match .rest in
-    let eight : c .before .args .align ≡ 8 =
-    ⊎-elim (λ e. absurd (no-1 e)) (⊎-elim (λ e. absurd (no-2 e)) (⊎-elim (λ e. absurd (no-4 e)) (λ e. e))) (c .before .pre .aligned) in
-    simp eight (record { is = omega arith; small = omega arith })
+returns : tie.Need-returns
+returns c = masked (aligned-power (c .pre .aligned))
 
 pub rounded-spec : {M : Type 1} → statement M
-rounded-spec =
-    tie.close
-    (tie.spec (λ c. search needs) (λ c. search needs) (λ c. search needs) (λ c. search needs) (λ c. search needs) (λ c. search needs)
-    by-1 by-2 by-4 by-8)
+rounded-spec = tie.close (tie.spec sub-up add-y sub-result returns)
