@@ -1,11 +1,11 @@
 -- Bytes that are put in blocks. The last block may lie over bytes that are put already.
 use Prim.Native.Nat.{ℕ, zero, suc, _+_, _-_, _/_, _≤_}
 use native.Mathlib.Omega.{arith}
-use native.Mathlib.Nat.{add-zero, add-suc, suc-add, add-assoc}
+use native.Mathlib.Nat.{add-zero, add-suc, suc-add, add-assoc, sub-zero}
 use native.Mathlib.Numerals.{add-one, add-two, add-three}
 use mathlib.Core.Path.{_≡_, refl, sym, ap, _∙_}
-use mathlib.Core.List.{List, [], _∷_}
-use lib.ListN.{length, getD, set, take, drop, replicate, length-drop, length-replicate}
+use mathlib.Core.List.{List, [], _∷_, _++_, append-nil}
+use lib.ListN.{length, getD, set, take, drop, replicate, length-take, length-drop, length-replicate, drop-of-length-le}
 use lib.Seq.{sets, take-all, take-add, drop-drop, set-set}
 use Rattle.layout.proofs.PartLaws.{drop-next, long}
 use Rattle.store.specs.Store.{few, partOf}
@@ -70,18 +70,30 @@ part-behind bs out at i n m h x y z =
 
 ---- A block over another -------------------------------------------------------------------------------------------------------
 
--- the first k bytes are put, and then all
-all-over : (bs out : List ℕ) (at k : ℕ) → sets (sets out at (take k bs)) at bs ≡ sets out at bs
-all-over bs out at zero = refl
-all-over [] out at (suc k) = refl
-all-over (b ∷ bs) out at (suc k) =
-    let once : set (set out at b) at b ≡ set out at b = set-set out at b b in
-    ap (λ xs. sets xs (suc at) bs) (set-before (take k bs) (set out at b) at (suc at) b (omega arith) ∙ rw once)
-    ∙ all-over bs (set out at b) (suc at) k
+-- ws is put over the front of vs, of which the rest stands behind it
+same-place : (ws vs out : List ℕ) (at : ℕ) → sets (sets out at vs) at ws ≡ sets out at (ws ++ drop (length ws) vs)
+same-place [] vs out at = refl
+same-place (w ∷ ws) [] out at = rw append-nil
+same-place (w ∷ ws) (v ∷ vs) out at =
+    ap (λ xs. sets xs (suc at) ws) (set-before vs (set out at v) at (suc at) w (omega arith) ∙ rw (set-set out at v w))
+    ∙ same-place ws vs (set out at w) (suc at)
 
--- .. and then those from j on
+-- .. and vs starts j bytes further on
+pub front-over : (ws vs out : List ℕ) (at j : ℕ) → j ≤ length ws
+    → sets (sets out (at + j) vs) at ws ≡ sets out at (ws ++ drop (length ws - j) vs)
+front-over ws vs out at zero h = rw (add-zero, sub-zero) (same-place ws vs out at)
+front-over [] vs out at (suc j) h = absurd (omega arith)
+front-over (w ∷ ws) vs out at (suc j) h =
+    let e : at + suc j ≡ suc at + j = omega arith in
+    let d : suc (length ws) - suc j ≡ length ws - j = omega arith in
+    ap (λ xs. sets xs (suc at) ws) (set-before vs out at (at + suc j) w (omega arith))
+    ∙ rw (e, d) (front-over ws vs (set out at w) (suc at) j (omega arith))
+
+-- the first k bytes are put, and then those from j on
 over : (bs out : List ℕ) (at j k : ℕ) → j ≤ k → sets (sets out at (take k bs)) (at + j) (drop j bs) ≡ sets out at bs
-over bs out at zero k h = rw add-zero (all-over bs out at k)
+over bs out at zero k h =
+    let d : drop (length bs) (take k bs) ≡ [] = drop-of-length-le (take k bs) {i = length bs} (omega (arith, length-take k bs)) in
+    rw add-zero (same-place bs (take k bs) out at ∙ rw (d, append-nil))
 over bs out at (suc j) zero h = absurd (omega arith)
 over [] out at (suc j) (suc k) h = refl
 over (b ∷ bs) out at (suc j) (suc k) h = rw (add-suc at j, ← suc-add at j) (over bs (set out at b) (suc at) j k (omega arith))
