@@ -66,8 +66,8 @@ fn shape_of(p: Plan) -> Shape
     }
 }
 
-// Writes a message at the front: header, packet and tail. The tail is shorter than the alignment, so that so many last bytes are
-// filled, and header and packet go over them.
+// Writes a message at the front: header, packet and tail. The tail is shorter than the alignment: as many last bytes are filled,
+// and header and packet go over them.
 fn put_message(p: Plan, out: &mut [u8], packet: &[u8], ctr: u32, free: u8)
     requires { ⌜ Fitting p (now out) (now packet) ⌝ }
     ensures { λ _. ⌜ now (out .exit) ≡ sets (now (out .entry)) 0 (messageBytes (setting p) free ctr (now (packet .entry))) ⌝ }
