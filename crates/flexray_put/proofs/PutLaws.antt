@@ -1,11 +1,11 @@
 -- A header, a packet and the evening byte that are put byte by byte are those of the definitions.
-use Prim.Native.Nat.{ℕ, _+_, _-_, _%_, _<_}
+use Prim.Native.Nat.{ℕ, _+_, _%_, _<_}
 use native.Mathlib.Omega.{arith}
 use native.Mathlib.Nat.{zero-add, mod-eq-of-lt}
 use native.Mathlib.Numerals.{add-one}
 use mathlib.Core.Path.{_≡_, refl, sym, _∙_}
 use mathlib.Core.Bool.{Bool, true, false, not, _&&_}
-use mathlib.Core.List.{List, [], _∷_, _++_, append-nil}
+use mathlib.Core.List.{List, [], _∷_, _++_}
 use lib.ListN.{length, replicate, set, length-replicate}
 use lib.Seq.{sets}
 use lib.Dec.{eqb}
@@ -32,14 +32,10 @@ header-stamped n node len ctr b =
     alike (λ h. sets (stamped len ctr b (h .fields)) 0 (bytes 1 node)) (λ h. puts (values node len ctr) b (h .fields))
     (record { fields = []; aligns = [] }) headers n refl refl
 
--- a packet with no tail
-no-tail : (b : List ℕ) (free : ℕ) → b ++ replicate 0 free ≡ b
-no-tail b free = append-nil b
-
 pub first-put : {p : Plan} → Ready p → (out b : List ℕ) (ctr free : ℕ) {one two new : List ℕ}
     → one ≡ headed out (record { size = p .size; lenat = p .lenat; lenwidth = p .lenwidth; ctrat = p .ctrat; ctrwidth = p .ctrwidth })
     (length b) ctr free
-    → two ≡ sets one 0 (bytes 1 (p .node)) → new ≡ sets two (p .size) (b ++ replicate 0 free)
+    → two ≡ sets one 0 (bytes 1 (p .node)) → new ≡ sets two (p .size) b
     → new ≡ sets out 0 (headBytes (setting p) free ctr (length b) ++ b)
 first-put {p} k out b ctr free {one} {two} {new} x y z =
     let fs = fields (setting p) in
@@ -51,19 +47,19 @@ first-put {p} k out b ctr free {one} {two} {new} x y z =
     let d : two ≡ sets out 0 hs =
     y ∙ rw a (at-front (bytes 1 (p .node)) v out 0 (omega (arith, stamped-length n ctr free fs, k .size, k .size-least))
     ∙ rw (header-stamped (p .header) (p .node) n ctr free)) in
-    z ∙ rw (d, no-tail b free) (sym (sets-append hs b out 0 ∙ rw (l, zero-add (p .size))))
+    z ∙ rw d (sym (sets-append hs b out 0 ∙ rw (l, zero-add (p .size))))
 
 ---- Further packets ------------------------------------------------------------------------------------------------------------
 
 pub further-put : (out b : List ℕ) (skip free : ℕ) → length b < 256 → {one two new : List ℕ}
-    → one ≡ sets out 0 (replicate skip free) → two ≡ sets one skip (bytes 1 (length b)) → new ≡ sets two (skip + 1) (b ++ replicate 0 free)
+    → one ≡ sets out 0 (replicate skip free) → two ≡ sets one skip (bytes 1 (length b)) → new ≡ sets two (skip + 1) b
     → new ≡ sets out 0 (replicate skip free ++ (length b ∷ b))
 further-put out b skip free h {one} {two} {new} x y z =
     let f : List ℕ = replicate skip free in
     let l : length f ≡ skip = length-replicate skip free in
     let m : length b % 256 ≡ length b = mod-eq-of-lt h in
     let q : 0 + length f ≡ skip = omega arith in
-    z ∙ rw (y, x, m, no-tail b free, add-one skip) (sym (sets-append f (length b ∷ b) out 0 ∙ rw q))
+    z ∙ rw (y, x, m, add-one skip) (sym (sets-append f (length b ∷ b) out 0 ∙ rw q))
 
 ---- The evening byte -----------------------------------------------------------------------------------------------------------
 

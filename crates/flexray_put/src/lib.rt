@@ -34,7 +34,7 @@ fn put_first(p: Plan, out: &mut [u8], packet: &[u8], ctr: u32, free: u8)
     };
     put_header(out, k, packet.len(), ctr, free);
     put_field(out, 0, 1, p.node);
-    put_packet(out, p.size, packet, 0, free);
+    put_packet(out, p.size, packet);
 }
 
 // Writes a further packet at the front of the rest of the output: the bytes skipped, its LEN, the packet.
@@ -45,7 +45,7 @@ fn put_further(out: &mut [u8], skip: usize, packet: &[u8], free: u8)
 {
     fill(out, 0, skip, free);
     put_field(out, skip, 1, packet.len());
-    put_packet(out, skip + 1, packet, 0, free);
+    put_packet(out, skip + 1, packet);
 }
 
 // Writes a packet that starts at a place behind one that ends at e. Its writer is handed the rest of the output.

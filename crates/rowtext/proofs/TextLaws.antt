@@ -5,7 +5,7 @@ use native.Mathlib.Nat.{pow-suc, one-le-pow}
 use native.Mathlib.Numerals.{unary-clauses}
 use mathlib.Core.Path.{_≡_, refl, sym, ap, _∙_}
 use mathlib.Core.List.{List, [], _∷_, _++_}
-use lib.ListN.{length, take, length-append}
+use lib.ListN.{length, set, take, length-append}
 use lib.Seq.{sets, length-sets}
 use borrow.Author.Tests.{lt-ltb, le-ltb}
 use Rattle.io.specs.Counts.{Counts}
@@ -69,18 +69,19 @@ spelt {n} {text} {k} h f c e =
     record { digits = e ∙ spells-decimal k n f; count = c .1; inside = c .0; few = few-digits 9 k n (omega arith) f }
 
 -- .. is put with a byte behind it, where the first k bytes were lent from 0 on
-pub word-put : (old : List ℕ) (at n behind : ℕ) {text new : List ℕ} {k : ℕ} → Spelt n text k
-    → new ≡ sets old at (take (k - 0) text ++ (behind ∷ []))
-    → Puts old at (word n behind) 11 new (at + k + 1)
-word-put old at n behind {text} {new} {k} s x =
+pub word-put : (old : List ℕ) (at n behind : ℕ) {text mid : List ℕ} {k : ℕ} → Spelt n text k → mid ≡ sets old at (take (k - 0) text)
+    → Puts old at (word n behind) 11 (set mid (at + k) behind) (at + k + 1)
+word-put old at n behind {text} {mid} {k} s x =
+    let d : List ℕ = decimal n in
     let z : k - 0 ≡ k = omega arith in
-    let l : length (word n behind) ≡ k + 1 =
-    rw (← s .digits) (length-append (take k text) (behind ∷ []) ∙ omega (arith, s .count)) in
+    let e : length d ≡ k = ap length (sym (s .digits)) ∙ sym (s .count) in
+    let m : mid ≡ sets old at d = x ∙ rw (z, s .digits) in
+    let b : set mid (at + k) behind ≡ sets old at (word n behind) = rw m (sym (sets-append d (behind ∷ []) old at ∙ rw e)) in
     record {
-      bytes = x ∙ rw (z, s .digits);
-      next = omega arith;
+      bytes = b;
+      next = omega (arith, length-append d (behind ∷ []));
       most = omega (arith, s .few);
-      long = ap length x ∙ length-sets old at (take (k - 0) text ++ (behind ∷ []));
+      long = ap length b ∙ length-sets old at (word n behind);
     }
 
 ---- Text behind text -----------------------------------------------------------------------------------------------------------

@@ -28,7 +28,8 @@ fn put_word(out: &mut [u8], at: usize, n: u32, behind: u8) -> usize
 {
     let mut text = [0u8; 20];
     let k = spell(n, &mut text);
-    put_packet(out, at, &text[0..k], 1, behind);
+    put_packet(out, at, &text[0..k]);
+    out[at + k] = behind;
     at + k + 1
 }
 
@@ -63,7 +64,7 @@ fn put_refusal(out: &mut [u8], number: u32, place: u32) -> usize
     requires { ⌜ Inside (now out) 0 30 ⌝ }
     ensures { λ r. ⌜ Puts (now (out .entry)) 0 (refusedText number place) 30 (now (out .exit)) r ⌝ }
 {
-    put_packet(out, 0, b"refused", 1, b' ');
+    put_packet(out, 0, b"refused ");
     let a = put_word(out, 8, number, b' ');
     put_word(out, a, place, b'\n')
 }

@@ -64,7 +64,7 @@ sets-behind r m v xs q l = ap (sets xs q) (sym (append-assoc r m v)) ∙ sets-ap
 
 ---- A run within a run ---------------------------------------------------------------------------------------------------------
 
-set-before : (ws xs : List ℕ) (a j v : ℕ) → a < j → set (sets xs j ws) a v ≡ sets (set xs a v) j ws
+pub set-before : (ws xs : List ℕ) (a j v : ℕ) → a < j → set (sets xs j ws) a v ≡ sets (set xs a v) j ws
 set-before [] xs a j v h = refl
 set-before (w ∷ ws) xs a j v h =
     set-before ws (set xs j w) a (suc j) v (omega arith) ∙ rw (set-comm xs j a w v (λ e. omega arith))

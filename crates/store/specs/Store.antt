@@ -1,13 +1,44 @@
 -- What putting bytes into a lent output asks and tells.
-use Prim.Native.Nat.{ℕ, _+_, _≤_}
-use mathlib.Core.List.{List}
-use lib.ListN.{length, replicate}
+use Prim.Native.Nat.{ℕ, zero, suc, _+_, _≤_}
+use mathlib.Core.List.{List, [], _∷_}
+use lib.ListN.{length, replicate, take, drop}
 use lib.Seq.{sets}
 use Rattle.layout.specs.Field.{bytes}
 use Rattle.layout.specs.declared.Shape.{Shape}
+use Rattle.store.specs.declared.Four.{Four}
 
 pub record Inside (out : List ℕ) (at n : ℕ) : Type 0 where
   pub room : at + n ≤ length out
+
+---- Blocks of bytes ------------------------------------------------------------------------------------------------------------
+
+-- four bytes as a list
+abbrev pub four : Four → List ℕ
+four f = f .0 ∷ f .1 ∷ f .2 ∷ f .3 ∷ []
+
+-- one to three bytes, by the first, the middle and the last
+abbrev pub few : ℕ → ℕ → ℕ → ℕ → List ℕ
+few zero first middle last = []
+few (suc zero) first middle last = last ∷ []
+few (suc (suc zero)) first middle last = first ∷ last ∷ []
+few (suc (suc (suc n))) first middle last = first ∷ middle ∷ last ∷ []
+
+-- the n bytes from i on
+abbrev pub partOf : List ℕ → ℕ → ℕ → List ℕ
+partOf bs i n = take n (drop i bs)
+
+-- a run of low to high bytes has room
+pub record Short (out : List ℕ) (at n low high : ℕ) : Type 0 where
+  pub least : low ≤ n
+  pub most : n ≤ high
+  pub room : at + n ≤ length out
+
+-- the n bytes from i on are there, and have room
+pub record Copyable (out : List ℕ) (at : ℕ) (bs : List ℕ) (i n : ℕ) : Type 0 where
+  pub room : at + n ≤ length out
+  pub there : i + n ≤ length bs
+
+---- A header -------------------------------------------------------------------------------------------------------------------
 
 -- a header of this shape has room, and its fields lie inside it
 pub record Headed (out : List ℕ) (k : Shape) : Type 0 where

@@ -1,19 +1,71 @@
-// Bytes put into a lent output: free bytes, a packet with its tail, a header.
+// Bytes put into a lent output: free bytes, a packet, a header.
 ghost use mathlib.Core.Path.{_≡_};
-ghost use mathlib.Core.List.{_++_};
-ghost use Prim.Native.Nat.{_+_};
+ghost use Prim.Native.Nat.{_≤_};
 ghost use lib.ListN.{length, replicate};
 ghost use lib.Seq.{sets};
-ghost use Rattle.store.specs.Store.{Inside, Headed, headed};
+ghost use Rattle.store.specs.Store.{Inside, Short, Copyable, Headed, four, few, partOf, headed};
 use layout::Shape;
 use layout::put_field;
 use layout::wide32;
+
+// Four bytes that stand one behind another.
+struct Four(u8, u8, u8, u8);
+
+// The four bytes of a part from a place on.
+fn four_at(part: &[u8], i: usize) -> Four
+    requires { ⌜ Inside (now part) i 4 ⌝ }
+    ensures { λ r. ⌜ four r ≡ partOf (now (part .entry)) i 4 ⌝ }
+{
+    Four(part[i], part[i + 1], part[i + 2], part[i + 3])
+}
+
+// Puts four bytes from a place on.
+fn put_four(out: &mut [u8], at: usize, f: Four)
+    requires { ⌜ Inside (now out) at 4 ⌝ }
+    ensures { λ _. ⌜ now (out .exit) ≡ sets (now (out .entry)) at (four f) ⌝ }
+{
+    out[at] = f.0;
+    out[at + 1] = f.1;
+    out[at + 2] = f.2;
+    out[at + 3] = f.3;
+}
+
+// Puts one to three bytes from a place on: the first, the middle and the last.
+fn put_few(out: &mut [u8], at: usize, n: usize, first: u8, middle: u8, last: u8)
+    requires { ⌜ Short (now out) at n 1 3 ⌝ }
+    ensures { λ _. ⌜ now (out .exit) ≡ sets (now (out .entry)) at (few n first middle last) ⌝ }
+{
+    out[at] = first;
+    out[at + n / 2] = middle;
+    out[at + n - 1] = last;
+}
+
+// Puts at most eight free bytes from a place on, the first four and the last four.
+fn fill_few(out: &mut [u8], at: usize, n: usize, free: u8)
+    requires { ⌜ Short (now out) at n 0 8 ⌝ }
+    ensures { λ _. ⌜ now (out .exit) ≡ sets (now (out .entry)) at (replicate n free) ⌝ }
+{
+    if 4 <= n {
+        let f = Four(free, free, free, free);
+        put_four(out, at, f);
+        put_four(out, at + n - 4, f);
+        return;
+    }
+    if n == 0 {
+        return;
+    }
+    put_few(out, at, n, free, free, free);
+}
 
 // Puts n free bytes from a place on.
 pub fn fill(out: &mut [u8], at: usize, n: usize, free: u8)
     requires { ⌜ Inside (now out) at n ⌝ }
     ensures { λ _. ⌜ now (out .exit) ≡ sets (now (out .entry)) at (replicate n free) ⌝ }
 {
+    if n <= 8 {
+        fill_few(out, at, n, free);
+        return;
+    }
     let end = at + n;
     let mut i = at;
     while i < end {
@@ -22,25 +74,82 @@ pub fn fill(out: &mut [u8], at: usize, n: usize, free: u8)
     }
 }
 
-// Copies all of a part to a place.
-fn copy(out: &mut [u8], at: usize, part: &[u8])
-    requires { ⌜ Inside (now out) at (length (now part)) ⌝ }
-    ensures { λ _. ⌜ now (out .exit) ≡ sets (now (out .entry)) at (now (part .entry)) ⌝ }
+// Copies eight bytes. All are read before one is written, so that they go as one.
+fn copy_eight(out: &mut [u8], at: usize, part: &[u8], i: usize)
+    requires { ⌜ Copyable (now out) at (now part) i 8 ⌝ }
+    ensures { λ _. ⌜ now (out .exit) ≡ sets (now (out .entry)) at (partOf (now (part .entry)) i 8) ⌝ }
 {
-    let mut i: usize = 0;
-    while i < part.len() {
-        out[at + i] = part[i];
-        i += 1;
-    }
+    let a = four_at(part, i);
+    let b = four_at(part, i + 4);
+    put_four(out, at, a);
+    put_four(out, at + 4, b);
 }
 
-// Copies a packet to a place, with a tail of so many free bytes behind it.
-pub fn put_packet(out: &mut [u8], at: usize, packet: &[u8], tail: usize, free: u8)
-    requires { ⌜ Inside (now out) at (length (now packet) + tail) ⌝ }
-    ensures { λ _. ⌜ now (out .exit) ≡ sets (now (out .entry)) at (now (packet .entry) ++ replicate tail free) ⌝ }
+// Copies sixteen bytes.
+fn copy_sixteen(out: &mut [u8], at: usize, part: &[u8], i: usize)
+    requires { ⌜ Copyable (now out) at (now part) i 16 ⌝ }
+    ensures { λ _. ⌜ now (out .exit) ≡ sets (now (out .entry)) at (partOf (now (part .entry)) i 16) ⌝ }
 {
-    copy(out, at, packet);
-    fill(out, at + packet.len(), tail, free);
+    let a = four_at(part, i);
+    let b = four_at(part, i + 4);
+    let c = four_at(part, i + 8);
+    let d = four_at(part, i + 12);
+    put_four(out, at, a);
+    put_four(out, at + 4, b);
+    put_four(out, at + 8, c);
+    put_four(out, at + 12, d);
+}
+
+// Copies a part of less than eight bytes.
+fn copy_few(out: &mut [u8], at: usize, part: &[u8])
+    requires { ⌜ Short (now out) at (length (now part)) 0 7 ⌝ }
+    ensures { λ _. ⌜ now (out .exit) ≡ sets (now (out .entry)) at (now (part .entry)) ⌝ }
+{
+    let n = part.len();
+    if 4 <= n {
+        let first = four_at(part, 0);
+        let last = four_at(part, n - 4);
+        put_four(out, at, first);
+        put_four(out, at + n - 4, last);
+        return;
+    }
+    if n == 0 {
+        return;
+    }
+    put_few(out, at, n, part[0], part[n / 2], part[n - 1]);
+}
+
+// Copies a part of sixteen bytes or more.
+fn copy_many(out: &mut [u8], at: usize, part: &[u8])
+    requires { ⌜ Inside (now out) at (length (now part)) ⌝ }
+    requires { ⌜ 16 ≤ length (now part) ⌝ }
+    ensures { λ _. ⌜ now (out .exit) ≡ sets (now (out .entry)) at (now (part .entry)) ⌝ }
+{
+    let last = part.len() - 16;
+    let mut i: usize = 0;
+    while i < last {
+        copy_sixteen(out, at + i, part, i);
+        i += 16;
+    }
+    copy_sixteen(out, at + last, part, last);
+}
+
+// Copies a packet to a place.
+pub fn put_packet(out: &mut [u8], at: usize, packet: &[u8])
+    requires { ⌜ Inside (now out) at (length (now packet)) ⌝ }
+    ensures { λ _. ⌜ now (out .exit) ≡ sets (now (out .entry)) at (now (packet .entry)) ⌝ }
+{
+    let n = packet.len();
+    if n < 8 {
+        copy_few(out, at, packet);
+        return;
+    }
+    if n < 16 {
+        copy_eight(out, at, packet, 0);
+        copy_eight(out, at + n - 8, packet, n - 8);
+        return;
+    }
+    copy_many(out, at, packet);
 }
 
 // Puts a header at the front: LEN and CTR, and the free byte where it has neither.

@@ -1,22 +1,24 @@
 -- A rest and a message that are put byte by byte are those of the definitions.
-use Prim.Native.Nat.{ℕ, zero, suc, _+_, _-_, _≤_}
+use Prim.Native.Nat.{ℕ, zero, suc, _+_, _*_, _-_, _/_, _%_, _<_, _≤_}
 use native.Mathlib.Omega.{arith}
-use native.Mathlib.Nat.{zero-add}
-use mathlib.Core.Path.{_≡_, refl, sym, _∙_}
+use native.Mathlib.Nat.{zero-add, div-add-mod'}
+use mathlib.Core.Path.{_≡_, refl, sym, ap, _∙_}
 use mathlib.Core.Bool.{true, false, _||_}
-use mathlib.Core.List.{List, [], _++_}
-use lib.ListN.{length, take, drop, replicate, length-replicate}
-use lib.Seq.{sets, sets-eq}
+use mathlib.Core.List.{List, [], _++_, append-assoc}
+use lib.ListN.{length, take, drop, replicate, length-append, length-replicate}
+use lib.Seq.{sets, sets-eq, take-all}
 use lib.Dec.{eqb, ltb}
 use borrow.Author.Tests.{ltb-false}
 use Rattle.layout.specs.declared.Shape.{Shape}
 use Rattle.layout.specs.Field.{bytes, values, shape, puts}
 use Rattle.layout.specs.Multiple.{pad}
 use Rattle.layout.proofs.FieldLaws.{length-bytes, length-puts}
+use Rattle.layout.proofs.MultipleLaws.{pad-less, pad-whole}
 use Rattle.layout.proofs.TableLaws.{alike}
 use Rattle.layout.proofs.TestLaws.{or-right}
 use Rattle.packet.specs.declared.At.{At}
 use Rattle.store.specs.Store.{headed}
+use Rattle.store.proofs.BlockLaws.{drop-replicate, front-over}
 use Rattle.store.proofs.HeaderLaws.{stamped, header-put}
 use Rattle.store.proofs.StoreLaws.{sets-append, sets-within, lent-rest}
 use Rattle.usb.specs.Setting.{headers, header, fields, H}
@@ -30,11 +32,6 @@ use Rattle.usb_put.specs.Put.{ShapeOf, Standing}
 
 ---- Rests ----------------------------------------------------------------------------------------------------------------------
 
-drop-replicate : (k n b : ℕ) → drop k (replicate n b) ≡ replicate (n - k) b
-drop-replicate zero n b = let e : n - 0 ≡ n = omega arith in rw e
-drop-replicate (suc k) zero b = let e : 0 - suc k ≡ 0 = omega arith in rw e
-drop-replicate (suc k) (suc n) b = let e : suc n - suc k ≡ n - k = omega arith in rw e (drop-replicate k n b)
-
 -- a run at the front of free bytes
 front : (vs : List ℕ) (n b : ℕ) → length vs ≤ n → sets (replicate n b) 0 vs ≡ vs ++ replicate (n - length vs) b
 front vs n b h =
@@ -45,6 +42,13 @@ module _ {p : Plan} (k : Ready p) (out : List ℕ) (at n free : ℕ) where
   pub rest-free : eqb (p .packing) 0 || ltb n (p .size) ≡ true → sets out at (replicate n free) ≡ sets out at (restBytes (setting p) free n)
   unfolding restBytes
   rest-free e = rw (← k .size, e)
+
+  -- a rest of no bytes is no bytes
+  pub rest-none : n ≡ 0 → out ≡ sets out at (restBytes (setting p) free n)
+  rest-none e =
+      let r : List ℕ = restBytes (setting p) free n in
+      let l : length r ≡ n = rest-length (setting p) (good (setting p) (k .ok)) free n in
+      ap (sets out at) (take-all 0 r (omega arith))
 
   pub header-fits : eqb (p .packing) 0 || ltb n (p .size) ≡ false → p .size ≤ n
   header-fits e = ltb-false n (p .size) (or-right (eqb (p .packing) 0) (ltb n (p .size)) e)
@@ -73,19 +77,47 @@ pub shape-is : {p : Plan} → Ready p
     ≡ shape (fields (setting p))
 shape-is k = rw (k .size, k .lenat, k .lenwidth, k .ctrat, k .ctrwidth)
 
-pub message-put : {p : Plan} → Ready p → (out b : List ℕ) (ctr free : ℕ) {w : ℕ} {h : Shape} {one new : List ℕ}
-    → Whole p (length b) w → ShapeOf p h → one ≡ headed out h (length b) ctr free
-    → new ≡ sets one (p .size) (b ++ replicate (w - p .size - length b) free)
+-- a multiple of the alignment is as long as that, and the tail is shorter
+multiple-least : (a x : ℕ) → 0 < x → x % a ≡ 0 → a ≤ x
+multiple-least a x h e = at (x / a) (div-add-mod' x a)
+  where
+    at : (q : ℕ) → q * a + x % a ≡ x → a ≤ x
+    at zero d = absurd (omega arith)
+    at (suc q) d = omega arith
+
+pub record Ends (p : Plan) (n w : ℕ) : Type 0 where
+  pub reached : p .align ≤ w
+  pub short : w < p .size + n + p .align
+
+pub message-ends : {p : Plan} → Ready p → {n w : ℕ} → Whole p n w → Ends p n w
+message-ends {p} k {n} {w} v =
+    let g = good (setting p) (k .ok) in
+    let x : ℕ = H (setting p) + n in
+    let m : w % p .align ≡ 0 = rw (v .is) (pad-whole (p .align) x (g .align)) in
+    record {
+      reached = multiple-least (p .align) w (omega (arith, v .is, g .head)) m;
+      short = omega (arith, v .is, k .size, pad-less (p .align) x (g .align));
+    }
+
+pub message-put : {p : Plan} → Ready p → (out b : List ℕ) (ctr free : ℕ) {w : ℕ} {h : Shape} {end one new : List ℕ}
+    → Whole p (length b) w → ShapeOf p h → end ≡ sets out (w - p .align) (replicate (p .align) free)
+    → one ≡ headed end h (length b) ctr free → new ≡ sets one (p .size) b
     → new ≡ sets out 0 (messageBytes (setting p) free ctr b)
-message-put {p} k out b ctr free {w} {h} {one} v e x y =
+message-put {p} k out b ctr free {w} {h} {end} {one} {new} v e z x y =
     let fs = fields (setting p) in
     let n : ℕ = length b in
     let hs : List ℕ = puts (values 0 n ctr) free fs in
     let l : length hs ≡ p .size = length-puts (values 0 n ctr) free fs ∙ sym (k .size) in
-    let t : w - p .size - n ≡ pad (p .align) (H (setting p) + n) = omega (arith, v .is, k .size) in
-    let first : one ≡ sets out 0 hs = x ∙ rw (e .is) (header-put out fs 0 n ctr free (header-stamped (p .header) n ctr free)) in
-    let tail : List ℕ = b ++ replicate (pad (p .align) (H (setting p) + n)) free in
-    y ∙ rw (first, t) (sym (sets-append hs tail out 0 ∙ rw (l, zero-add (p .size))))
+    let m : length (hs ++ b) ≡ p .size + n = length-append hs b ∙ rw l in
+    let first : one ≡ sets end 0 hs = x ∙ rw (e .is) (header-put end fs 0 n ctr free (header-stamped (p .header) n ctr free)) in
+    let both : new ≡ sets end 0 (hs ++ b) = y ∙ rw first (sym (sets-append hs b end 0 ∙ rw (l, zero-add (p .size)))) in
+    let f : List ℕ = replicate (p .align) free in
+    let j : ℕ = w - p .align in
+    let d = message-ends k v in
+    let over : sets (sets out j f) 0 (hs ++ b) ≡ sets out 0 ((hs ++ b) ++ drop (length (hs ++ b) - j) f) =
+    rw zero-add at (front-over (hs ++ b) f out 0 j (omega (arith, d .short))) in
+    let t : p .align - (length (hs ++ b) - j) ≡ pad (p .align) (H (setting p) + n) = omega (arith, v .is, k .size, d .reached, d .short) in
+    both ∙ rw z (over ∙ rw (drop-replicate (length (hs ++ b) - j) (p .align) free, t, append-assoc))
 
 -- .. and a message behind the rest before it, where the output from its place on was lent
 pub one-put : {p : Plan} {out : List ℕ} {a : At} {m : Spot} {b : List ℕ} → Standing p out a m b → (free : ℕ) (msg : List ℕ) {one ys : List ℕ}

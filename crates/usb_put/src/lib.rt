@@ -41,6 +41,17 @@ pub fn put_rest(p: Plan, out: &mut [u8], at: usize, n: usize, free: u8)
     put_field(out, at + p.lenat, p.lenwidth, 0);
 }
 
+// Writes a rest that may have no bytes.
+fn put_skipped(p: Plan, out: &mut [u8], at: usize, n: usize, free: u8)
+    requires { ⌜ Resting p (now out) at n ⌝ }
+    ensures { λ _. ⌜ now (out .exit) ≡ sets (now (out .entry)) at (restBytes (setting p) free n) ⌝ }
+{
+    if n == 0 {
+        return;
+    }
+    put_rest(p, out, at, n, free);
+}
+
 // The header's numbers.
 fn shape_of(p: Plan) -> Shape
     requires { ⌜ Ready p ⌝ }
@@ -55,15 +66,17 @@ fn shape_of(p: Plan) -> Shape
     }
 }
 
-// Writes a message at the front: header, packet and tail.
+// Writes a message at the front: header, packet and tail. The tail is shorter than the alignment: as many last bytes are filled,
+// and header and packet go over them.
 fn put_message(p: Plan, out: &mut [u8], packet: &[u8], ctr: u32, free: u8)
     requires { ⌜ Fitting p (now out) (now packet) ⌝ }
     ensures { λ _. ⌜ now (out .exit) ≡ sets (now (out .entry)) 0 (messageBytes (setting p) free ctr (now (packet .entry))) ⌝ }
 {
     let n = packet.len();
-    let tail = whole(p, n) - p.size - n;
+    let end = whole(p, n);
+    fill(out, end - p.align, p.align, free);
     put_header(out, shape_of(p), n, ctr, free);
-    put_packet(out, p.size, packet, tail, free);
+    put_packet(out, p.size, packet);
 }
 
 // Writes a message where it comes to stand, behind the rest that is passed over. It is handed the rest of the output.
@@ -72,7 +85,7 @@ fn put_one(p: Plan, out: &mut [u8], a: At, m: Spot, packet: &[u8], ctr: u32, fre
     ensures { λ _. ⌜ now (out .exit) ≡ sets (now (out .entry)) (a .q)
         (restBytes (setting p) free (m .skip) ++ messageBytes (setting p) free ctr (now (packet .entry))) ⌝ }
 {
-    put_rest(p, out, a.q, m.skip, free);
+    put_skipped(p, out, a.q, m.skip, free);
     let at = m.from;
     put_message(p, &mut out[at..], packet, ctr, free);
 }

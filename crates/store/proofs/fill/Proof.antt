@@ -16,22 +16,24 @@ abbrev μ-loop : tie.MeasureT-loop
 
 begins : tie.Need-loop-holds Inv-loop μ-loop
 begins c =
-    let n : c .args .at + c .args .n - c .args .at ≡ c .args .n = omega arith in
+    let a = c .before .before .args in
+    let n : a .at + a .n - a .at ≡ a .n = omega arith in
     (omega arith, left-start refl (rw n))
 
 again : tie.Need-loop-again Inv-loop μ-loop
 again c =
     let l = c .before in
-    let a = l .before .args in
+    let a = l .before .before .before .args in
     (omega arith, left-next (l .loop .inv .1) (replicate-next (a .free) (l .loop .i) (a .at + a .n) (omega arith)) refl)
 
-ends : tie.Need-returns Inv-loop μ-loop
+ends : tie.Need-returns-2 Inv-loop μ-loop
 ends c =
     let l = c .before in
-    let a = l .before .args in
+    let a = l .before .before .before .args in
     left-none (l .loop .inv .1) (replicate-none (a .free) (l .loop .i) (a .at + a .n) (omega arith))
 
 pub fill-spec : {M : Type 1} → statement M
 fill-spec =
     tie.close
-    (tie.spec Inv-loop μ-loop (λ c. search needs) begins (λ c. search needs) (λ c. search needs) (λ c. search needs) again (λ c. search needs) ends)
+    (tie.spec Inv-loop μ-loop (λ c κs. search needs) (λ c. search needs) (λ c. search needs) (λ c. search needs) begins (λ c. search needs)
+    (λ c. search needs) (λ c. search needs) again (λ c. search needs) ends)

@@ -1,14 +1,20 @@
-use lib.ListN.{replicate}
+use native.Mathlib.Omega.{arith}
+use mathlib.Core.Path.{refl}
 use borrow.Author.Needs.{needs}
-use Rattle.store.proofs.StoreLaws.{sets-append}
+use Rattle.store.proofs.BlockLaws.{part-ends}
 use Rattle.store.proofs.put_packet.Statement.{statement}
 use Rattle.store.proofs.put_packet.Tie as tie
 
-returns : tie.Need-returns
-returns c =
-    let copied = c .before .before .before .before .before .before in
-    let a = copied .before .before .before .before .args in
-    cc (sets-append (a .packet .now) (replicate (a .tail) (a .free)) (a .out .now) (a .at))
+eights : tie.Need-returns-2
+eights c =
+    let q = c .before .before in
+    let p = q .before .before .before .before in
+    let a = p .before .before .before .before .before .before .args in
+    part-ends (a .packet .now) (a .out .now) (a .at) 8 8 (omega arith) (omega arith) (p .copy-eight .ensures) (omega arith) refl
+    (q .copy-eight2 .ensures)
 
 pub put-packet-spec : {M : Type 1} → statement M
-put-packet-spec = tie.close (tie.spec (λ c κs. search needs) (λ c. search needs) (λ c κs. search needs) (λ c. search needs) returns)
+put-packet-spec =
+    tie.close
+    (tie.spec (λ c κs. search needs) (λ c. search needs) (λ c. search needs) (λ c κs. search needs) (λ c. search needs) (λ c. search needs)
+    (λ c κs. search needs) (λ c. search needs) eights (λ c κs. search needs) (λ c. search needs) (λ c. search needs))

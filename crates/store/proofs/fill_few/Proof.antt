@@ -1,0 +1,24 @@
+use native.Mathlib.Omega.{arith}
+use borrow.Author.Needs.{needs}
+use Rattle.store.proofs.BlockLaws.{few-free, fill-ends}
+use Rattle.store.proofs.fill_few.Statement.{statement}
+use Rattle.store.proofs.fill_few.Tie as tie
+
+fours : tie.Need-returns
+fours c =
+    let q = c .before .before in
+    let p = q .before .before .before .before in
+    let a = p .before .before .before .before .args in
+    fill-ends (a .out .now) (a .at) (a .n) 4 (a .free) (omega arith) (omega arith) (p .put-four .ensures) (omega arith) (q .put-four2 .ensures)
+
+few : tie.Need-returns-3
+few c =
+    let p = c .before .before in
+    let a = p .before .before .before .before .before .args in
+    rw (few-free (a .n) (a .free) (omega arith)) at (p .put-few .ensures)
+
+pub fill-few-spec : {M : Type 1} → statement M
+fill-few-spec =
+    tie.close
+    (tie.spec (λ c κs. search needs) (λ c. search needs) (λ c. search needs) (λ c κs. search needs) (λ c. search needs) fours (λ c. search needs)
+    (λ c κs. search needs) (λ c. search needs) few)
