@@ -17,7 +17,7 @@ use Rattle.usb_plan.specs.declared.Plan.{Plan}
 use Rattle.usb_plan.specs.Plan.{setting, Ready, Place, Moved, Whole}
 use Rattle.usb_plan.proofs.PlaceLaws.{first-place}
 use Rattle.usb_size.specs.declared.Spot.{Spot}
-use Rattle.usb_size.specs.Size.{needed, Spaced, Skipped, Placing, Placed, reach, topped}
+use Rattle.usb_size.specs.Size.{needed, Spaced, Starting, Spotted, Placing, Placed, reach, topped}
 use Rattle.usb_size.specs.Size.{Unfit, FitsTo, MisfitAt, Ended}
 
 not-false : true ≡ false → ⊥
@@ -50,29 +50,42 @@ permitted s q n h = at (eqb (s .packing) 0) (eqb (s .packing) 1)
     at true b = all-left o (s .datapacket) h
     at false b = fits-left o (s .datapacket) (cond b (whole s n) (H s)) h
 
-pub skip-is : {p : Plan} {a : At} {w r : ℕ} → Spaced p a → r ≡ cond (leb (needed p w) (a .end - a .q)) 0 (a .end - a .q) → Skipped p a w r
-skip-is {p} {a} {w} {r} h e = record { is = e; short = at (leb (needed p w) (a .end - a .q)) e }
-  where
-    at : (b : Bool) → r ≡ cond b 0 (a .end - a .q) → r ≤ 1024
-    at true e = omega arith
-    at false e = omega (arith, h .place .near, h .ready .cut-most)
+-- a message stands where it may: at the place, or at the end of the data packet
+module _ {p : Plan} {a : At} {n : ℕ} (h : Placing p a n) {w : ℕ} (e : Whole p n w) where
+  pub starting : {from : ℕ} → a .q ≤ from → from ≤ a .end → Starting p a from w
+  starting l u =
+      record {
+        ready = h .ready;
+        place = h .place;
+        not-before = l;
+        not-past = u;
+        some = omega (arith, e .is, h .ready .size, h .ready .size-least);
+        small = omega (arith, e .small, h .small);
+        near = h .near;
+      }
 
-pub placed : {p : Plan} {a : At} {n : ℕ} → Placing p a n → {w k : ℕ} {b : At} → Whole p n w → Skipped p a w k → Moved p (a .q + k + w) b
-    → Placed p a n (record { skip = k; from = a .q + k; whole = w; next = b })
-unfolding skipped
-placed {p} {a} {n} h {w} {k} e s m =
-    let r = h .ready in
-    let o : a .q % p .datapacket < p .datapacket = mod-lt (a .q) (omega (arith, r .cut-least)) in
-    let l : a .end - a .q ≡ p .datapacket - a .q % p .datapacket = omega (arith, h .place .end) in
-    let i = permitted (setting p) (a .q) n o in
-    record {
-      skip = s .is ∙ rw (l, e .is, r .size, i);
-      from = refl;
-      whole = e .is;
-      next = m .there;
-      place = m .place;
-      near = omega (arith, m .there, s .short, e .small, h .small);
-    }
+  stood : {from : ℕ} → from ≤ a .end → a .q ≤ from → from - a .q ≡ cond (leb (needed p w) (a .end - a .q)) 0 (a .end - a .q)
+      → {r : Spot} → Spotted p a from w r → Placed p a n r
+  unfolding skipped
+  stood {from} u l k x =
+      let r = h .ready in
+      let o : a .q % p .datapacket < p .datapacket = mod-lt (a .q) (omega (arith, r .cut-least)) in
+      let y : a .end - a .q ≡ p .datapacket - a .q % p .datapacket = omega (arith, h .place .end) in
+      let i = permitted (setting p) (a .q) n o in
+      record {
+        skip = x .skip ∙ k ∙ rw (y, e .is, r .size, i);
+        from = omega (arith, x .from, x .skip);
+        whole = x .whole ∙ e .is;
+        next = x .next .there ∙ rw (x .from, x .whole);
+        place = x .next .place;
+        near = omega (arith, x .next .there, e .small, h .small, h .place .near, r .cut-most);
+      }
+
+  pub placed-here : needed p w ≤ a .end - a .q → {r : Spot} → Spotted p a (a .q) w r → Placed p a n r
+  placed-here f = stood (omega (arith, h .place .short)) (omega arith) (rw (le-leb (needed p w) (a .end - a .q) f) (omega arith))
+
+  pub placed-next : a .end - a .q < needed p w → {r : Spot} → Spotted p a (a .end) w r → Placed p a n r
+  placed-next f = stood (omega arith) (omega (arith, h .place .short)) (rw (lt-leb (needed p w) (a .end - a .q) f))
 
 ---- Lengths --------------------------------------------------------------------------------------------------------------------
 

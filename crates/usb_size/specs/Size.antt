@@ -12,7 +12,7 @@ use Rattle.usb.specs.declared.Setting.{Setting}
 use Rattle.usb.specs.Setting.{whole}
 use Rattle.usb.specs.Writing.{skipped, misfit}
 use Rattle.usb_plan.specs.declared.Plan.{Plan}
-use Rattle.usb_plan.specs.Plan.{setting, Ready, Place}
+use Rattle.usb_plan.specs.Plan.{setting, Ready, Place, Moved}
 use Rattle.usb_size.specs.declared.Sized.{Sized}
 use Rattle.usb_size.specs.declared.Sized.the-variants as S
 use Rattle.usb_size.specs.declared.Spot.{Spot}
@@ -27,9 +27,21 @@ pub record Spaced (p : Plan) (a : At) : Type 0 where
 abbrev pub needed : Plan → ℕ → ℕ
 needed p w = cond (eqb (p .packing) 0) (p .datapacket) (cond (eqb (p .packing) 1) w (p .size))
 
-pub record Skipped (p : Plan) (a : At) (w r : ℕ) : Type 0 where
-  pub is : r ≡ cond (leb (needed p w) (a .end - a .q)) 0 (a .end - a .q)
-  pub short : r ≤ 1024
+-- w bytes are to start at x, in the data packet of a place or right behind it
+pub record Starting (p : Plan) (a : At) (x w : ℕ) : Type 0 where
+  pub ready : Ready p
+  pub place : Place p a
+  pub not-before : a .q ≤ x
+  pub not-past : x ≤ a .end
+  pub some : 0 < w
+  pub small : w ≤ 65546
+  pub near : a .q ≤ 900000000
+
+pub record Spotted (p : Plan) (a : At) (x w : ℕ) (r : Spot) : Type 0 where
+  pub skip : r .skip ≡ x - a .q
+  pub from : r .from ≡ x
+  pub whole : r .whole ≡ w
+  pub next : Moved p (x + w) (r .next)
 
 -- a packet of n bytes, from a place on
 pub record Placing (p : Plan) (a : At) (n : ℕ) : Type 0 where

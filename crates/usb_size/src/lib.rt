@@ -1,7 +1,7 @@
 // Where messages come to stand in a transfer that is written, and how long it becomes.
 ghost use mathlib.Core.Path.{_≡_};
 ghost use Rattle.usb_plan.specs.Plan.{Ready};
-ghost use Rattle.usb_size.specs.Size.{Spaced, Skipped, Placing, Placed, Unfit, Sizable, SizedAs, Ended};
+ghost use Rattle.usb_size.specs.Size.{needed as neededOf, Spaced, Starting, Spotted, Placing, Placed, Unfit, Sizable, SizedAs, Ended};
 use layout::both;
 use layout::pick;
 use layout::wide32;
@@ -24,34 +24,42 @@ pub enum Sized {
     Misfit(usize),
 }
 
-// The bytes passed over to the first place where a message of so many bytes may stand: to the next data packet, if to any.
-fn skipped(p: Plan, a: At, whole: usize) -> usize
-    requires { ⌜ Spaced p a ⌝ }
-    ensures { λ r. ⌜ Skipped p a whole r ⌝ }
+// A message of so many bytes may start where its data packet has this many left.
+fn needed(p: Plan, whole: usize) -> usize
+    ensures { λ r. ⌜ r ≡ neededOf p whole ⌝ }
 {
-    let room = a.end - a.q;
-    let need = pick(
+    pick(
         p.packing == 0,
         p.datapacket,
         pick(p.packing == 1, whole, p.size),
-    );
-    pick(need <= room, 0, room)
+    )
 }
 
-// Where a message with a packet of n bytes comes to stand.
+// A message of so many bytes that starts there, behind what is passed over.
+fn spot_at(p: Plan, a: At, from: usize, whole: usize) -> Spot
+    requires { ⌜ Starting p a from whole ⌝ }
+    ensures { λ r. ⌜ Spotted p a from whole r ⌝ }
+{
+    Spot {
+        skip: from - a.q,
+        from,
+        whole,
+        next: on(p, a, from + whole),
+    }
+}
+
+// Where a message with a packet of n bytes comes to stand: here, or at the next data packet. Each has its own way on, so that
+// the next message need not wait for the test.
 pub fn place(p: Plan, a: At, n: usize) -> Spot
     requires { ⌜ Placing p a n ⌝ }
     ensures { λ r. ⌜ Placed p a n r ⌝ }
 {
     let whole = whole(p, n);
-    let skip = skipped(p, a, whole);
-    let from = a.q + skip;
-    Spot {
-        skip,
-        from,
-        whole,
-        next: on(p, a, from + whole),
+    let need = needed(p, whole);
+    if need <= a.end - a.q {
+        return spot_at(p, a, a.q, whole);
     }
+    spot_at(p, a, a.end, whole)
 }
 
 // Whether a length is 0, over X, or, in single and multiple packing, does not fit one data packet.
