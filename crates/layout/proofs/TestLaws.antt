@@ -1,10 +1,8 @@
--- Tests joined by && and ||, the lesser number by a test, and tests that tell two facts apart.
-use Prim.Native.Nat.{ℕ, min}
+-- Tests joined by && and ||, and tests that tell two facts apart.
+use Prim.Native.Nat.{ℕ}
 use native.Mathlib.Omega.{arith}
 use mathlib.Core.Path.{_≡_, refl, sym}
-use mathlib.Core.Bool.{Bool, true, false, cond, _&&_, _||_}
-use lib.Dec.{ltb}
-use borrow.Author.Tests.{ltb-true, ltb-false}
+use mathlib.Core.Bool.{Bool, true, false, _&&_, _||_}
 
 pub and-left : (a b : Bool) → a && b ≡ true → a ≡ true
 and-left true b e = refl
@@ -21,13 +19,6 @@ or-left false b e = refl
 pub or-right : (a b : Bool) → a || b ≡ false → b ≡ false
 or-right true b e = cc
 or-right false b e = e
-
-pub lesser : (a b : ℕ) → cond (ltb a b) a b ≡ min a b
-lesser a b = at (ltb a b) refl
-  where
-    at : (first : Bool) → ltb a b ≡ first → cond first a b ≡ min a b
-    at true e = omega (arith, ltb-true a b e)
-    at false e = omega (arith, ltb-false a b e)
 
 -- a test that passes, and P holds, or fails, and N holds
 pub data Tells (P N : Type 0) : Bool → Type 0 where

@@ -111,10 +111,13 @@ pub fn pick(first: bool, a: usize, b: usize) -> usize
 }
 
 // The lesser of two numbers.
-pub fn least(a: usize, b: usize) -> usize
-    ensures { λ r. ⌜ r ≡ min a b ⌝ }
+pub fn least(x: usize, y: usize) -> usize
+    ensures { λ r. ⌜ r ≡ min x y ⌝ }
 {
-    pick(a < b, a, b)
+    if x < y {
+        return x;
+    }
+    y
 }
 
 // The least multiple of the alignment that is not below x. Alignments are powers of two, so a mask takes the rest off: no division, no branch.
