@@ -7,6 +7,7 @@ use Rattle.store.proofs.BlockLaws.{part-behind}
 use Rattle.store.proofs.copy_sixty_four.Statement.{statement}
 use Rattle.store.proofs.copy_sixty_four.Tie as tie
 
+-- The entry lies too far back for the search in these three.
 third-fits : tie.Need-add-put-sixteen-2
 third-fits c =
     let p1 = c .before .before .before .before .before .before .before in
