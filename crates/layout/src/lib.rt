@@ -1,7 +1,7 @@
 // Headers, and numbers in their fields, low byte first; alignment; and how tests are joined.
 ghost use mathlib.Core.Path.{_≡_};
 ghost use mathlib.Core.Bool.{cond, _&&_, _||_};
-ghost use Prim.Native.Nat.{_<_};
+ghost use Prim.Native.Nat.{_<_, min};
 ghost use lib.Seq.{sets};
 ghost use Rattle.layout.specs.Field.{bytes};
 ghost use Rattle.layout.specs.Leaf.{Within, Number};
@@ -108,6 +108,16 @@ pub fn pick(first: bool, a: usize, b: usize) -> usize
         return a;
     }
     b
+}
+
+// The lesser of two numbers.
+pub fn least(x: usize, y: usize) -> usize
+    ensures { λ r. ⌜ r ≡ min x y ⌝ }
+{
+    if x < y {
+        return x;
+    }
+    y
 }
 
 // The least multiple of the alignment that is not below x. Alignments are powers of two, so a mask takes the rest off: no division, no branch.

@@ -6,10 +6,10 @@ use native.Mathlib.Numerals.{add-one, add-two, add-three}
 use mathlib.Core.Path.{_≡_, refl, sym, ap, _∙_}
 use mathlib.Core.List.{List, [], _∷_, _++_, append-nil}
 use lib.ListN.{length, getD, set, take, drop, replicate, length-take, length-drop, length-replicate, drop-of-length-le}
-use lib.Seq.{sets, take-all, take-add, drop-drop, set-set}
+use lib.Seq.{sets, take-all, take-add, drop-drop, set-set, length-sets}
 use Rattle.layout.proofs.PartLaws.{drop-next, long}
 use Rattle.store.specs.Store.{few, partOf}
-use Rattle.store.proofs.StoreLaws.{sets-append, set-before}
+use Rattle.store.proofs.StoreLaws.{Left, sets-append, set-before}
 
 ---- Four bytes -----------------------------------------------------------------------------------------------------------------
 
@@ -62,11 +62,17 @@ few-part (a ∷ b ∷ c ∷ d ∷ bs) h = absurd (omega arith)
 
 ---- A block behind another -----------------------------------------------------------------------------------------------------
 
+pub part-join : (bs : List ℕ) (i n m : ℕ) {vs ws : List ℕ} → vs ≡ partOf bs i n → ws ≡ partOf bs (i + n) m → vs ++ ws ≡ partOf bs i (n + m)
+part-join bs i n m x y = rw (x, y) (sym (take-add n m (drop i bs) ∙ rw (drop-drop n i bs)))
+
+pub put-behind : (vs ws out : List ℕ) (at n : ℕ) → length vs ≡ n → {one two : List ℕ} → one ≡ sets out at vs → two ≡ sets one (at + n) ws
+    → two ≡ sets out at (vs ++ ws)
+put-behind vs ws out at n l x y = y ∙ rw (x, ← l) (sym (sets-append vs ws out at))
+
 pub part-behind : (bs out : List ℕ) (at i n m : ℕ) → i + n ≤ length bs → {one two vs : List ℕ} → one ≡ sets out at (partOf bs i n)
     → vs ≡ partOf bs (i + n) m → two ≡ sets one (at + n) vs → two ≡ sets out at (partOf bs i (n + m))
-part-behind bs out at i n m h x y z =
-    z ∙ rw (x, y) (sym (ap (sets out at) (take-add n m (drop i bs)) ∙ sets-append (partOf bs i n) (take m (drop n (drop i bs))) out at
-    ∙ rw (long bs i n h, drop-drop n i bs)))
+part-behind bs out at i n m h {vs} x y z =
+    put-behind (partOf bs i n) vs out at n (long bs i n h) x z ∙ ap (sets out at) (part-join bs i n m refl y)
 
 ---- A block over another -------------------------------------------------------------------------------------------------------
 
@@ -106,6 +112,25 @@ part-ends bs out at k m l h x e y z =
     let d : length (drop (length bs - m) bs) ≡ length bs - (length bs - m) = length-drop (length bs - m) bs in
     let t : partOf bs (length bs - m) m ≡ drop (length bs - m) bs = take-all m (drop (length bs - m) bs) (omega arith) in
     z ∙ rw (x, e, y, t) (over bs out at (length bs - m) k (omega arith))
+
+---- The turns of a loop --------------------------------------------------------------------------------------------------------
+
+-- the bytes from i on are left, and n of them are put
+module _ {old bs out : List ℕ} {at : ℕ} (i : ℕ) (l : Left old at bs out (at + i) (drop i bs)) (n : ℕ) {one : List ℕ}
+    (x : one ≡ sets out (at + i) (partOf bs i n)) where
+  pub left-turn : (j : ℕ) → i ≤ j → j ≤ i + n → Left old at bs one (at + j) (drop j bs)
+  left-turn j a b =
+      let e : i + (j - i) ≡ j = omega arith in
+      let f : at + i + (j - i) ≡ at + j = omega arith in
+      let o : sets (sets out (at + i) (partOf bs i n)) (at + i + (j - i)) (drop (j - i) (drop i bs)) ≡ sets out (at + i) (drop i bs) =
+      over (drop i bs) out (at + i) (j - i) n (omega arith) in
+      record {
+        same = l .same ∙ sym (rw x (rw (f, drop-drop (j - i) i bs, e) at o));
+        long = ap length x ∙ length-sets out (at + i) (partOf bs i n) ∙ l .long;
+      }
+
+  pub left-end : length bs ≤ i + n → one ≡ sets old at bs
+  left-end h = x ∙ rw (take-all n (drop i bs) (simp length-drop (omega arith))) (sym (l .same))
 
 ---- Free bytes -----------------------------------------------------------------------------------------------------------------
 

@@ -1,11 +1,12 @@
 -- What putting bytes into a lent output asks and tells.
 use Prim.Native.Nat.{ℕ, zero, suc, _+_, _≤_}
-use mathlib.Core.List.{List, [], _∷_}
+use mathlib.Core.List.{List, [], _∷_, _++_}
 use lib.ListN.{length, replicate, take, drop}
 use lib.Seq.{sets}
 use Rattle.layout.specs.Field.{bytes}
 use Rattle.layout.specs.declared.Shape.{Shape}
 use Rattle.store.specs.declared.Four.{Four}
+use Rattle.store.specs.declared.Sixteen.{Sixteen}
 
 pub record Inside (out : List ℕ) (at n : ℕ) : Type 0 where
   pub room : at + n ≤ length out
@@ -15,6 +16,10 @@ pub record Inside (out : List ℕ) (at n : ℕ) : Type 0 where
 -- four bytes as a list
 abbrev pub four : Four → List ℕ
 four f = f .0 ∷ f .1 ∷ f .2 ∷ f .3 ∷ []
+
+-- sixteen bytes as a list
+unfoldable pub sixteen : Sixteen → List ℕ
+sixteen s = ((four (s .0) ++ four (s .1)) ++ four (s .2)) ++ four (s .3)
 
 -- one to three bytes, by the first, the middle and the last
 abbrev pub few : ℕ → ℕ → ℕ → ℕ → List ℕ

@@ -3,8 +3,9 @@ ghost use mathlib.Core.Path.{_≡_};
 ghost use Prim.Native.Nat.{_≤_};
 ghost use lib.ListN.{length, replicate};
 ghost use lib.Seq.{sets};
-ghost use Rattle.store.specs.Store.{Inside, Short, Copyable, Headed, four, few, partOf, headed};
+ghost use Rattle.store.specs.Store.{Inside, Short, Copyable, Headed, four, sixteen, few, partOf, headed};
 use layout::Shape;
+use layout::least;
 use layout::put_field;
 use layout::wide32;
 
@@ -28,6 +29,33 @@ fn put_four(out: &mut [u8], at: usize, f: Four)
     out[at + 1] = f.1;
     out[at + 2] = f.2;
     out[at + 3] = f.3;
+}
+
+// Sixteen bytes that stand one behind another.
+struct Sixteen(Four, Four, Four, Four);
+
+// The sixteen bytes of a part from a place on.
+fn sixteen_at(part: &[u8], i: usize) -> Sixteen
+    requires { ⌜ Inside (now part) i 16 ⌝ }
+    ensures { λ r. ⌜ sixteen r ≡ partOf (now (part .entry)) i 16 ⌝ }
+{
+    Sixteen(
+        four_at(part, i),
+        four_at(part, i + 4),
+        four_at(part, i + 8),
+        four_at(part, i + 12),
+    )
+}
+
+// Puts sixteen bytes from a place on.
+fn put_sixteen(out: &mut [u8], at: usize, s: Sixteen)
+    requires { ⌜ Inside (now out) at 16 ⌝ }
+    ensures { λ _. ⌜ now (out .exit) ≡ sets (now (out .entry)) at (sixteen s) ⌝ }
+{
+    put_four(out, at, s.0);
+    put_four(out, at + 4, s.1);
+    put_four(out, at + 8, s.2);
+    put_four(out, at + 12, s.3);
 }
 
 // Puts one to three bytes from a place on: the first, the middle and the last.
@@ -90,14 +118,34 @@ fn copy_sixteen(out: &mut [u8], at: usize, part: &[u8], i: usize)
     requires { ⌜ Copyable (now out) at (now part) i 16 ⌝ }
     ensures { λ _. ⌜ now (out .exit) ≡ sets (now (out .entry)) at (partOf (now (part .entry)) i 16) ⌝ }
 {
-    let a = four_at(part, i);
-    let b = four_at(part, i + 4);
-    let c = four_at(part, i + 8);
-    let d = four_at(part, i + 12);
-    put_four(out, at, a);
-    put_four(out, at + 4, b);
-    put_four(out, at + 8, c);
-    put_four(out, at + 12, d);
+    let a = sixteen_at(part, i);
+    put_sixteen(out, at, a);
+}
+
+// Copies thirty-two bytes.
+fn copy_thirty_two(out: &mut [u8], at: usize, part: &[u8], i: usize)
+    requires { ⌜ Copyable (now out) at (now part) i 32 ⌝ }
+    ensures { λ _. ⌜ now (out .exit) ≡ sets (now (out .entry)) at (partOf (now (part .entry)) i 32) ⌝ }
+{
+    let a = sixteen_at(part, i);
+    let b = sixteen_at(part, i + 16);
+    put_sixteen(out, at, a);
+    put_sixteen(out, at + 16, b);
+}
+
+// Copies sixty-four bytes.
+fn copy_sixty_four(out: &mut [u8], at: usize, part: &[u8], i: usize)
+    requires { ⌜ Copyable (now out) at (now part) i 64 ⌝ }
+    ensures { λ _. ⌜ now (out .exit) ≡ sets (now (out .entry)) at (partOf (now (part .entry)) i 64) ⌝ }
+{
+    let a = sixteen_at(part, i);
+    let b = sixteen_at(part, i + 16);
+    let c = sixteen_at(part, i + 32);
+    let d = sixteen_at(part, i + 48);
+    put_sixteen(out, at, a);
+    put_sixteen(out, at + 16, b);
+    put_sixteen(out, at + 32, c);
+    put_sixteen(out, at + 48, d);
 }
 
 // Copies a part of less than eight bytes.
@@ -119,22 +167,24 @@ fn copy_few(out: &mut [u8], at: usize, part: &[u8])
     put_few(out, at, n, part[0], part[n / 2], part[n - 1]);
 }
 
-// Copies a part of sixteen bytes or more.
+// Copies a part of sixty-four bytes or more. The last block ends where the part ends, and may lie over bytes that are copied already.
 fn copy_many(out: &mut [u8], at: usize, part: &[u8])
     requires { ⌜ Inside (now out) at (length (now part)) ⌝ }
-    requires { ⌜ 16 ≤ length (now part) ⌝ }
+    requires { ⌜ 64 ≤ length (now part) ⌝ }
     ensures { λ _. ⌜ now (out .exit) ≡ sets (now (out .entry)) at (now (part .entry)) ⌝ }
 {
-    let last = part.len() - 16;
+    let last = part.len() - 64;
     let mut i: usize = 0;
-    while i < last {
-        copy_sixteen(out, at + i, part, i);
-        i += 16;
+    loop {
+        copy_sixty_four(out, at + i, part, i);
+        if i == last {
+            return;
+        }
+        i = least(i + 64, last);
     }
-    copy_sixteen(out, at + last, part, last);
 }
 
-// Copies a packet to a place.
+// Copies a packet to a place: a short one by its first block and its last, which may lie over the first.
 pub fn put_packet(out: &mut [u8], at: usize, packet: &[u8])
     requires { ⌜ Inside (now out) at (length (now packet)) ⌝ }
     ensures { λ _. ⌜ now (out .exit) ≡ sets (now (out .entry)) at (now (packet .entry)) ⌝ }
@@ -147,6 +197,16 @@ pub fn put_packet(out: &mut [u8], at: usize, packet: &[u8])
     if n < 16 {
         copy_eight(out, at, packet, 0);
         copy_eight(out, at + n - 8, packet, n - 8);
+        return;
+    }
+    if n < 32 {
+        copy_sixteen(out, at, packet, 0);
+        copy_sixteen(out, at + n - 16, packet, n - 16);
+        return;
+    }
+    if n < 64 {
+        copy_thirty_two(out, at, packet, 0);
+        copy_thirty_two(out, at + n - 32, packet, n - 32);
         return;
     }
     copy_many(out, at, packet);

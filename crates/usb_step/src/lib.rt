@@ -1,11 +1,11 @@
 // The USB step: what stands at a place of a transfer that is judged, or was.
 ghost use mathlib.Core.Path.{_≡_};
 ghost use mathlib.Core.Bool.{false};
-ghost use Prim.Native.Nat.{min};
 ghost use Rattle.usb.specs.Reading.{choose as chooseOf};
 ghost use Rattle.usb_step.specs.Place.{Standing, Kept, tested};
 ghost use Rattle.usb_step.specs.Step.{Header, Len, Measured, Fitting, FoundAt, Going, Behind, Saw};
 use layout::field;
+use layout::least;
 use layout::pick;
 use packet::At;
 use packet::Found;
@@ -24,15 +24,6 @@ pub struct Sizes {
     pub len: usize,
     pub whole: usize,
     pub next: usize,
-}
-
-fn least(a: usize, b: usize) -> usize
-    ensures { λ r. ⌜ r ≡ min a b ⌝ }
-{
-    if a < b {
-        return a;
-    }
-    b
 }
 
 // LEN of a header at q, or 0 where no header fits into the space there.
