@@ -13,9 +13,10 @@ use borrow.Author.Tests.{eq-eqb, ne-eqb}
 use Rattle.layout.specs.Field.{bytes, values, puts}
 use Rattle.layout.proofs.FieldLaws.{length-puts}
 use Rattle.layout.proofs.TableLaws.{alike}
+use Rattle.layout.proofs.RunLaws.{sets-append}
 use Rattle.store.specs.Store.{headed}
 use Rattle.store.proofs.HeaderLaws.{stamped, put-stamped, stamped-length}
-use Rattle.store.proofs.StoreLaws.{sets-append, at-front}
+use Rattle.store.proofs.StoreLaws.{at-front}
 use Rattle.flexray.specs.Setting.{headers, header, fields}
 use Rattle.flexray.specs.Writing.{byteAfter, evening}
 use Rattle.flexray_plan.specs.declared.Plan.{Plan}

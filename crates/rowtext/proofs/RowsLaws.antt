@@ -9,7 +9,7 @@ use lib.Seq.{sets, getD-drop, drop-drop}
 use Rattle.packet.specs.declared.Counter.{Counter}
 use Rattle.packet.specs.declared.Reading.{Reading}
 use Rattle.packet.specs.declared.Reading.the-variants as R
-use Rattle.store.proofs.StoreLaws.{sets-append}
+use Rattle.layout.proofs.RunLaws.{sets-append}
 use Rattle.rowtext.specs.Text.{rowText, lineOf, lines, refusedText, told}
 use Rattle.rowtext.specs.Put.{Puts, Reports, Rowed, Listed, Tellable}
 

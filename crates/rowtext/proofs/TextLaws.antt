@@ -10,7 +10,7 @@ use lib.Seq.{sets, length-sets}
 use borrow.Author.Tests.{lt-ltb, le-ltb}
 use Rattle.io.specs.Counts.{Counts}
 use Rattle.io.specs.Digits.{glyph, digits, Fewest}
-use Rattle.store.proofs.StoreLaws.{sets-append}
+use Rattle.layout.proofs.RunLaws.{sets-append}
 use Rattle.rowtext.specs.Text.{spelled, decimal, word, refusedWord}
 use Rattle.rowtext.specs.Put.{Spelt, Puts}
 

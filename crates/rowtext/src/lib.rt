@@ -3,7 +3,7 @@ ghost use mathlib.Core.Path.{_≡_};
 ghost use Prim.Native.Nat.{_*_};
 ghost use lib.ListN.{drop};
 ghost use Rattle.packet.specs.Counter.{fresh};
-ghost use Rattle.store.specs.Store.{Inside};
+ghost use Rattle.blocks.specs.Blocks.{Inside};
 ghost use Rattle.usb.specs.Reading.{readOf};
 ghost use Rattle.rowtext.specs.Put.{Spelt, Puts, Reports, Rowed, Listed, Roomy, Tellable, Prepared};
 ghost use Rattle.rowtext.specs.Text.{word, lineOf, lines, refusedText, told, textOf, programText, u1 as u1Of};

@@ -1,3 +1,3 @@
-pub mod BlockLaws
 pub mod HeaderLaws
+pub mod OverLaws
 pub mod StoreLaws

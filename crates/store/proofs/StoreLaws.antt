@@ -7,6 +7,7 @@ use mathlib.Core.Path.{_≡_, refl, sym, ap, _∙_}
 use mathlib.Core.List.{List, [], _∷_, _++_, append-nil, append-assoc}
 use lib.ListN.{length, set, take, drop, replicate, length-set, length-drop, take-append-drop, drop-of-length-le}
 use lib.Seq.{sets, take-all, set-set, set-comm, take-set-le, drop-set-add}
+use Rattle.layout.proofs.RunLaws.{sets-append}
 
 ---- The loops ------------------------------------------------------------------------------------------------------------------
 
@@ -53,10 +54,6 @@ lent-rest xs vs a e =
     rw (e, t, d, append-nil) (sets-drop vs xs a 0 ∙ rw add-zero)
 
 ---- One run behind another -----------------------------------------------------------------------------------------------------
-
-pub sets-append : (vs ws xs : List ℕ) (i : ℕ) → sets xs i (vs ++ ws) ≡ sets (sets xs i vs) (i + length vs) ws
-sets-append [] ws xs i = rw add-zero
-sets-append (v ∷ vs) ws xs i = sets-append vs ws (set xs i v) (suc i) ∙ rw (add-suc i (length vs), ← suc-add i (length vs))
 
 -- two runs, and what is put behind them
 pub sets-behind : (r m v xs : List ℕ) (q : ℕ) {k : ℕ} → q + length (r ++ m) ≡ k → sets xs q (r ++ (m ++ v)) ≡ sets (sets xs q (r ++ m)) k v

@@ -1,25 +1,12 @@
 -- What putting bytes into a lent output asks and tells.
 use Prim.Native.Nat.{ℕ, zero, suc, _+_, _≤_}
-use mathlib.Core.List.{List, [], _∷_, _++_}
-use lib.ListN.{length, replicate, take, drop}
+use mathlib.Core.List.{List, [], _∷_}
+use lib.ListN.{length, replicate}
 use lib.Seq.{sets}
 use Rattle.layout.specs.Field.{bytes}
 use Rattle.layout.specs.declared.Shape.{Shape}
-use Rattle.store.specs.declared.Four.{Four}
-use Rattle.store.specs.declared.Sixteen.{Sixteen}
 
-pub record Inside (out : List ℕ) (at n : ℕ) : Type 0 where
-  pub room : at + n ≤ length out
-
----- Blocks of bytes ------------------------------------------------------------------------------------------------------------
-
--- four bytes as a list
-abbrev pub four : Four → List ℕ
-four f = f .0 ∷ f .1 ∷ f .2 ∷ f .3 ∷ []
-
--- sixteen bytes as a list
-unfoldable pub sixteen : Sixteen → List ℕ
-sixteen s = ((four (s .0) ++ four (s .1)) ++ four (s .2)) ++ four (s .3)
+---- Short runs -----------------------------------------------------------------------------------------------------------------
 
 -- one to three bytes, by the first, the middle and the last
 abbrev pub few : ℕ → ℕ → ℕ → ℕ → List ℕ
@@ -28,20 +15,11 @@ few (suc zero) first middle last = last ∷ []
 few (suc (suc zero)) first middle last = first ∷ last ∷ []
 few (suc (suc (suc n))) first middle last = first ∷ middle ∷ last ∷ []
 
--- the n bytes from i on
-abbrev pub partOf : List ℕ → ℕ → ℕ → List ℕ
-partOf bs i n = take n (drop i bs)
-
 -- a run of low to high bytes has room
 pub record Short (out : List ℕ) (at n low high : ℕ) : Type 0 where
   pub least : low ≤ n
   pub most : n ≤ high
   pub room : at + n ≤ length out
-
--- the n bytes from i on are there, and have room
-pub record Copyable (out : List ℕ) (at : ℕ) (bs : List ℕ) (i n : ℕ) : Type 0 where
-  pub room : at + n ≤ length out
-  pub there : i + n ≤ length bs
 
 ---- A header -------------------------------------------------------------------------------------------------------------------
 

@@ -3,60 +3,19 @@ ghost use mathlib.Core.Path.{_≡_};
 ghost use Prim.Native.Nat.{_≤_};
 ghost use lib.ListN.{length, replicate};
 ghost use lib.Seq.{sets};
-ghost use Rattle.store.specs.Store.{Inside, Short, Copyable, Headed, four, sixteen, few, partOf, headed};
+ghost use Rattle.blocks.specs.Blocks.{Inside};
+ghost use Rattle.store.specs.Store.{Short, Headed, few, headed};
+use blocks::Four;
+use blocks::copy_eight;
+use blocks::copy_sixteen;
+use blocks::copy_sixty_four;
+use blocks::copy_thirty_two;
+use blocks::four_at;
+use blocks::put_four;
 use layout::Shape;
 use layout::least;
 use layout::put_field;
 use layout::wide32;
-
-// Four bytes that stand one behind another.
-struct Four(u8, u8, u8, u8);
-
-// The four bytes of a part from a place on.
-fn four_at(part: &[u8], i: usize) -> Four
-    requires { ⌜ Inside (now part) i 4 ⌝ }
-    ensures { λ r. ⌜ four r ≡ partOf (now (part .entry)) i 4 ⌝ }
-{
-    Four(part[i], part[i + 1], part[i + 2], part[i + 3])
-}
-
-// Puts four bytes from a place on.
-fn put_four(out: &mut [u8], at: usize, f: Four)
-    requires { ⌜ Inside (now out) at 4 ⌝ }
-    ensures { λ _. ⌜ now (out .exit) ≡ sets (now (out .entry)) at (four f) ⌝ }
-{
-    out[at] = f.0;
-    out[at + 1] = f.1;
-    out[at + 2] = f.2;
-    out[at + 3] = f.3;
-}
-
-// Sixteen bytes that stand one behind another.
-struct Sixteen(Four, Four, Four, Four);
-
-// The sixteen bytes of a part from a place on.
-fn sixteen_at(part: &[u8], i: usize) -> Sixteen
-    requires { ⌜ Inside (now part) i 16 ⌝ }
-    ensures { λ r. ⌜ sixteen r ≡ partOf (now (part .entry)) i 16 ⌝ }
-{
-    Sixteen(
-        four_at(part, i),
-        four_at(part, i + 4),
-        four_at(part, i + 8),
-        four_at(part, i + 12),
-    )
-}
-
-// Puts sixteen bytes from a place on.
-fn put_sixteen(out: &mut [u8], at: usize, s: Sixteen)
-    requires { ⌜ Inside (now out) at 16 ⌝ }
-    ensures { λ _. ⌜ now (out .exit) ≡ sets (now (out .entry)) at (sixteen s) ⌝ }
-{
-    put_four(out, at, s.0);
-    put_four(out, at + 4, s.1);
-    put_four(out, at + 8, s.2);
-    put_four(out, at + 12, s.3);
-}
 
 // Puts one to three bytes from a place on: the first, the middle and the last.
 fn put_few(out: &mut [u8], at: usize, n: usize, first: u8, middle: u8, last: u8)
@@ -100,52 +59,6 @@ pub fn fill(out: &mut [u8], at: usize, n: usize, free: u8)
         out[i] = free;
         i += 1;
     }
-}
-
-// Copies eight bytes. All are read before one is written, so that they go as one.
-fn copy_eight(out: &mut [u8], at: usize, part: &[u8], i: usize)
-    requires { ⌜ Copyable (now out) at (now part) i 8 ⌝ }
-    ensures { λ _. ⌜ now (out .exit) ≡ sets (now (out .entry)) at (partOf (now (part .entry)) i 8) ⌝ }
-{
-    let a = four_at(part, i);
-    let b = four_at(part, i + 4);
-    put_four(out, at, a);
-    put_four(out, at + 4, b);
-}
-
-// Copies sixteen bytes.
-fn copy_sixteen(out: &mut [u8], at: usize, part: &[u8], i: usize)
-    requires { ⌜ Copyable (now out) at (now part) i 16 ⌝ }
-    ensures { λ _. ⌜ now (out .exit) ≡ sets (now (out .entry)) at (partOf (now (part .entry)) i 16) ⌝ }
-{
-    let a = sixteen_at(part, i);
-    put_sixteen(out, at, a);
-}
-
-// Copies thirty-two bytes.
-fn copy_thirty_two(out: &mut [u8], at: usize, part: &[u8], i: usize)
-    requires { ⌜ Copyable (now out) at (now part) i 32 ⌝ }
-    ensures { λ _. ⌜ now (out .exit) ≡ sets (now (out .entry)) at (partOf (now (part .entry)) i 32) ⌝ }
-{
-    let a = sixteen_at(part, i);
-    let b = sixteen_at(part, i + 16);
-    put_sixteen(out, at, a);
-    put_sixteen(out, at + 16, b);
-}
-
-// Copies sixty-four bytes.
-fn copy_sixty_four(out: &mut [u8], at: usize, part: &[u8], i: usize)
-    requires { ⌜ Copyable (now out) at (now part) i 64 ⌝ }
-    ensures { λ _. ⌜ now (out .exit) ≡ sets (now (out .entry)) at (partOf (now (part .entry)) i 64) ⌝ }
-{
-    let a = sixteen_at(part, i);
-    let b = sixteen_at(part, i + 16);
-    let c = sixteen_at(part, i + 32);
-    let d = sixteen_at(part, i + 48);
-    put_sixteen(out, at, a);
-    put_sixteen(out, at + 16, b);
-    put_sixteen(out, at + 32, c);
-    put_sixteen(out, at + 48, d);
 }
 
 // Copies a part of less than eight bytes.

@@ -14,13 +14,14 @@ use Rattle.layout.specs.Field.{bytes, values, shape, puts}
 use Rattle.layout.specs.Multiple.{pad}
 use Rattle.layout.proofs.FieldLaws.{length-bytes, length-puts}
 use Rattle.layout.proofs.MultipleLaws.{pad-less, pad-whole}
+use Rattle.layout.proofs.RunLaws.{sets-append}
 use Rattle.layout.proofs.TableLaws.{alike}
 use Rattle.layout.proofs.TestLaws.{or-right}
 use Rattle.packet.specs.declared.At.{At}
 use Rattle.store.specs.Store.{headed}
-use Rattle.store.proofs.BlockLaws.{drop-replicate, front-over}
+use Rattle.store.proofs.OverLaws.{drop-replicate, front-over}
 use Rattle.store.proofs.HeaderLaws.{stamped, header-put}
-use Rattle.store.proofs.StoreLaws.{sets-append, sets-within, lent-rest}
+use Rattle.store.proofs.StoreLaws.{sets-within, lent-rest}
 use Rattle.usb.specs.Setting.{headers, header, fields, H}
 use Rattle.usb.specs.Writing.{restBytes, messageBytes}
 use Rattle.usb.proofs.SettingLaws.{good}

@@ -14,7 +14,7 @@ use Rattle.usb.specs.declared.Setting.{Setting}
 use Rattle.usb.specs.Setting.{H, whole}
 use Rattle.usb.specs.Writing.{permits, skipped, misfit}
 use Rattle.usb_plan.specs.declared.Plan.{Plan}
-use Rattle.usb_plan.specs.Plan.{setting, Ready, Place, Moved, Whole}
+use Rattle.usb_plan.specs.Plan.{setting, Ready, Place, Whole}
 use Rattle.usb_plan.proofs.PlaceLaws.{first-place}
 use Rattle.usb_size.specs.declared.Spot.{Spot}
 use Rattle.usb_size.specs.Size.{needed, Spaced, Starting, Spotted, Placing, Placed, reach, topped}

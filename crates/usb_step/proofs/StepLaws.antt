@@ -1,8 +1,7 @@
 -- What each verdict at a place comes to.
 use Prim.Native.Nat.{ℕ, _+_, _-_, _%_, _<_, _≤_, min}
 use native.Mathlib.Omega.{arith}
-use native.Mathlib.Nat.{mod-lt}
-use mathlib.Core.Path.{_≡_, refl, sym, ap, _∙_}
+use mathlib.Core.Path.{_≡_, refl, sym, _∙_}
 use mathlib.Core.Bool.{Bool, true, false, cond}
 use mathlib.Core.List.{List}
 use lib.ListN.{length}
@@ -14,7 +13,6 @@ use Rattle.layout.specs.Walk.{after, Forward}
 use Rattle.layout.proofs.WalkLaws.{walk-eq}
 use Rattle.packet.specs.declared.At.{At}
 use Rattle.packet.specs.declared.Found.{Found}
-use Rattle.packet.specs.declared.Seen.{Seen}
 use Rattle.packet.specs.declared.Seen.the-variants as S
 use Rattle.packet.specs.Seen.{asStep}
 use Rattle.rows.specs.Ahead.{Crossed, Passed}
@@ -22,7 +20,7 @@ use Rattle.usb.specs.declared.Setting.{Setting}
 use Rattle.usb.specs.declared.Verdict.{Verdict}
 use Rattle.usb.specs.declared.Verdict.the-variants.{Stop, TakeRest, TakeMessage, Refuse}
 use Rattle.usb.specs.Setting.{H, whole}
-use Rattle.usb.specs.Reading.{space, lenAt, room, judge, stand, answer, seen, step, ahead}
+use Rattle.usb.specs.Reading.{space, lenAt, judge, answer, seen, step, ahead}
 use Rattle.usb.proofs.SettingLaws.{good}
 use Rattle.usb.proofs.StepLaws.{Open, Judged, judged, decided, front}
 use Rattle.usb.proofs.LaidLaws.{forward}

@@ -2,7 +2,7 @@ use native.Mathlib.Omega.{arith}
 use mathlib.Core.Path.{ap, _∙_}
 use lib.Seq.{sets, take-all}
 use borrow.Author.Needs.{needs}
-use Rattle.store.proofs.BlockLaws.{few-part, part-ends}
+use Rattle.store.proofs.OverLaws.{few-part, part-ends}
 use Rattle.store.proofs.copy_few.Statement.{statement}
 use Rattle.store.proofs.copy_few.Tie as tie
 

@@ -5,7 +5,7 @@ use native.Mathlib.Nat.{add-zero}
 use mathlib.Core.Path.{refl}
 use lib.ListN.{drop}
 use borrow.Author.Needs.{needs}
-use Rattle.store.proofs.BlockLaws.{left-turn, left-end}
+use Rattle.store.proofs.OverLaws.{left-turn, left-end}
 use Rattle.store.proofs.StoreLaws.{Left, left-start}
 use Rattle.store.proofs.copy_many.Statement.{statement}
 use Rattle.store.proofs.copy_many.Tie as tie

@@ -1,6 +1,6 @@
 use native.Mathlib.Omega.{arith}
 use borrow.Author.Needs.{needs}
-use Rattle.store.proofs.BlockLaws.{few-free, fill-ends}
+use Rattle.store.proofs.OverLaws.{few-free, fill-ends}
 use Rattle.store.proofs.fill_few.Statement.{statement}
 use Rattle.store.proofs.fill_few.Tie as tie
 

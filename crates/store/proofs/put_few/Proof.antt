@@ -1,7 +1,7 @@
 use native.Mathlib.Omega.{arith}
 use lib.ListN.{length-set}
 use borrow.Author.Needs.{needs}
-use Rattle.store.proofs.BlockLaws.{few-put}
+use Rattle.store.proofs.OverLaws.{few-put}
 use Rattle.store.proofs.put_few.Statement.{statement}
 use Rattle.store.proofs.put_few.Tie as tie
 

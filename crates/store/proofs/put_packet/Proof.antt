@@ -1,7 +1,7 @@
 use native.Mathlib.Omega.{arith}
 use mathlib.Core.Path.{refl}
 use borrow.Author.Needs.{needs}
-use Rattle.store.proofs.BlockLaws.{part-ends}
+use Rattle.store.proofs.OverLaws.{part-ends}
 use Rattle.store.proofs.put_packet.Statement.{statement}
 use Rattle.store.proofs.put_packet.Tie as tie
 

@@ -1,10 +1,10 @@
 use mathlib.Core.Path.{refl}
 use mathlib.Core.List.{_++_}
 use borrow.Author.Needs.{needs}
-use Rattle.store.specs.Store.{four, sixteen}
-use Rattle.store.proofs.BlockLaws.{put-behind}
-use Rattle.store.proofs.put_sixteen.Statement.{statement}
-use Rattle.store.proofs.put_sixteen.Tie as tie
+use Rattle.blocks.specs.Blocks.{four, sixteen}
+use Rattle.blocks.proofs.BlockLaws.{put-behind}
+use Rattle.blocks.proofs.put_sixteen.Statement.{statement}
+use Rattle.blocks.proofs.put_sixteen.Tie as tie
 
 returns : tie.Need-returns
 unfolding sixteen

@@ -1,9 +1,9 @@
 use native.Mathlib.Omega.{arith}
 use lib.ListN.{length-set}
 use borrow.Author.Needs.{needs}
-use Rattle.store.proofs.BlockLaws.{four-put}
-use Rattle.store.proofs.put_four.Statement.{statement}
-use Rattle.store.proofs.put_four.Tie as tie
+use Rattle.blocks.proofs.BlockLaws.{four-put}
+use Rattle.blocks.proofs.put_four.Statement.{statement}
+use Rattle.blocks.proofs.put_four.Tie as tie
 
 returns : tie.Need-returns
 returns c = let a = c .args in four-put (a .out .now) (a .at) (a .f .0) (a .f .1) (a .f .2) (a .f .3)

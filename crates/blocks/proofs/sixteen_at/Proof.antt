@@ -1,8 +1,8 @@
 use borrow.Author.Needs.{needs}
-use Rattle.store.specs.Store.{sixteen}
-use Rattle.store.proofs.BlockLaws.{part-join}
-use Rattle.store.proofs.sixteen_at.Statement.{statement}
-use Rattle.store.proofs.sixteen_at.Tie as tie
+use Rattle.blocks.specs.Blocks.{sixteen}
+use Rattle.blocks.proofs.BlockLaws.{part-join}
+use Rattle.blocks.proofs.sixteen_at.Statement.{statement}
+use Rattle.blocks.proofs.sixteen_at.Tie as tie
 
 returns : tie.Need-returns
 unfolding sixteen

@@ -1,8 +1,8 @@
 use mathlib.Core.Path.{ap, _∙_}
 use lib.Seq.{sets}
 use borrow.Author.Needs.{needs}
-use Rattle.store.proofs.copy_sixteen.Statement.{statement}
-use Rattle.store.proofs.copy_sixteen.Tie as tie
+use Rattle.blocks.proofs.copy_sixteen.Statement.{statement}
+use Rattle.blocks.proofs.copy_sixteen.Tie as tie
 
 returns : tie.Need-returns
 returns c =

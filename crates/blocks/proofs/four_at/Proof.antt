@@ -1,8 +1,8 @@
 use native.Mathlib.Omega.{arith}
 use borrow.Author.Needs.{needs}
-use Rattle.store.proofs.BlockLaws.{four-is}
-use Rattle.store.proofs.four_at.Statement.{statement}
-use Rattle.store.proofs.four_at.Tie as tie
+use Rattle.blocks.proofs.BlockLaws.{four-is}
+use Rattle.blocks.proofs.four_at.Statement.{statement}
+use Rattle.blocks.proofs.four_at.Tie as tie
 
 returns : tie.Need-returns
 returns c =

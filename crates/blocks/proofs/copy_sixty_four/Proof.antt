@@ -3,9 +3,9 @@ use native.Mathlib.Omega.{arith}
 use mathlib.Core.Path.{ap, _∙_}
 use lib.Seq.{sets}
 use borrow.Author.Needs.{needs}
-use Rattle.store.proofs.BlockLaws.{part-behind}
-use Rattle.store.proofs.copy_sixty_four.Statement.{statement}
-use Rattle.store.proofs.copy_sixty_four.Tie as tie
+use Rattle.blocks.proofs.BlockLaws.{part-behind}
+use Rattle.blocks.proofs.copy_sixty_four.Statement.{statement}
+use Rattle.blocks.proofs.copy_sixty_four.Tie as tie
 
 -- The entry lies too far back for the search in these three.
 third-fits : tie.Need-add-put-sixteen-2

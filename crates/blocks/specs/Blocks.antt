@@ -1,0 +1,26 @@
+-- What putting and copying a block of bytes asks and tells.
+use Prim.Native.Nat.{ℕ, _+_, _≤_}
+use mathlib.Core.List.{List, [], _∷_, _++_}
+use lib.ListN.{length, take, drop}
+use Rattle.blocks.specs.declared.Four.{Four}
+use Rattle.blocks.specs.declared.Sixteen.{Sixteen}
+
+pub record Inside (out : List ℕ) (at n : ℕ) : Type 0 where
+  pub room : at + n ≤ length out
+
+-- four bytes as a list
+abbrev pub four : Four → List ℕ
+four f = f .0 ∷ f .1 ∷ f .2 ∷ f .3 ∷ []
+
+-- sixteen bytes as a list
+unfoldable pub sixteen : Sixteen → List ℕ
+sixteen s = ((four (s .0) ++ four (s .1)) ++ four (s .2)) ++ four (s .3)
+
+-- the n bytes from i on
+abbrev pub partOf : List ℕ → ℕ → ℕ → List ℕ
+partOf bs i n = take n (drop i bs)
+
+-- the n bytes from i on are there, and have room
+pub record Copyable (out : List ℕ) (at : ℕ) (bs : List ℕ) (i n : ℕ) : Type 0 where
+  pub room : at + n ≤ length out
+  pub there : i + n ≤ length bs
