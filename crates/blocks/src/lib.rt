@@ -2,13 +2,23 @@
 // nothing else tells the compiler that what is read and what is written lie apart.
 ghost use mathlib.Core.Path.{_≡_};
 ghost use lib.Seq.{sets};
-ghost use Rattle.blocks.specs.Blocks.{Inside, Copyable, four, sixteen, partOf};
+ghost use Rattle.blocks.specs.Blocks.{Inside, Short, Copyable, few, four, sixteen, partOf};
+
+// Puts one to three bytes from a place on: the first, the middle and the last.
+pub fn put_few(out: &mut [u8], at: usize, n: usize, first: u8, middle: u8, last: u8)
+    requires { ⌜ Short (now out) at n 1 3 ⌝ }
+    ensures { λ _. ⌜ now (out .exit) ≡ sets (now (out .entry)) at (few n first middle last) ⌝ }
+{
+    out[at] = first;
+    out[at + n / 2] = middle;
+    out[at + n - 1] = last;
+}
 
 // Four bytes that stand one behind another.
 pub struct Four(pub u8, pub u8, pub u8, pub u8);
 
 // The four bytes of a part from a place on.
-pub fn four_at(part: &[u8], i: usize) -> Four
+fn four_at(part: &[u8], i: usize) -> Four
     requires { ⌜ Inside (now part) i 4 ⌝ }
     ensures { λ r. ⌜ four r ≡ partOf (now (part .entry)) i 4 ⌝ }
 {
@@ -51,6 +61,15 @@ fn put_sixteen(out: &mut [u8], at: usize, s: Sixteen)
     put_four(out, at + 4, s.1);
     put_four(out, at + 8, s.2);
     put_four(out, at + 12, s.3);
+}
+
+// Copies four bytes.
+pub fn copy_four(out: &mut [u8], at: usize, part: &[u8], i: usize)
+    requires { ⌜ Copyable (now out) at (now part) i 4 ⌝ }
+    ensures { λ _. ⌜ now (out .exit) ≡ sets (now (out .entry)) at (partOf (now (part .entry)) i 4) ⌝ }
+{
+    let f = four_at(part, i);
+    put_four(out, at, f);
 }
 
 // Copies eight bytes.

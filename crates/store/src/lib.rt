@@ -3,29 +3,20 @@ ghost use mathlib.Core.Path.{_≡_};
 ghost use Prim.Native.Nat.{_≤_};
 ghost use lib.ListN.{length, replicate};
 ghost use lib.Seq.{sets};
-ghost use Rattle.blocks.specs.Blocks.{Inside};
-ghost use Rattle.store.specs.Store.{Short, Headed, few, headed};
+ghost use Rattle.blocks.specs.Blocks.{Inside, Short};
+ghost use Rattle.store.specs.Store.{Headed, headed};
 use blocks::Four;
 use blocks::copy_eight;
+use blocks::copy_four;
 use blocks::copy_sixteen;
 use blocks::copy_sixty_four;
 use blocks::copy_thirty_two;
-use blocks::four_at;
+use blocks::put_few;
 use blocks::put_four;
 use layout::Shape;
 use layout::least;
 use layout::put_field;
 use layout::wide32;
-
-// Puts one to three bytes from a place on: the first, the middle and the last.
-fn put_few(out: &mut [u8], at: usize, n: usize, first: u8, middle: u8, last: u8)
-    requires { ⌜ Short (now out) at n 1 3 ⌝ }
-    ensures { λ _. ⌜ now (out .exit) ≡ sets (now (out .entry)) at (few n first middle last) ⌝ }
-{
-    out[at] = first;
-    out[at + n / 2] = middle;
-    out[at + n - 1] = last;
-}
 
 // Puts at most eight free bytes from a place on, the first four and the last four.
 fn fill_few(out: &mut [u8], at: usize, n: usize, free: u8)
@@ -68,10 +59,8 @@ fn copy_few(out: &mut [u8], at: usize, part: &[u8])
 {
     let n = part.len();
     if 4 <= n {
-        let first = four_at(part, 0);
-        let last = four_at(part, n - 4);
-        put_four(out, at, first);
-        put_four(out, at + n - 4, last);
+        copy_four(out, at, part, 0);
+        copy_four(out, at + n - 4, part, n - 4);
         return;
     }
     if n == 0 {

@@ -1,8 +1,9 @@
 use native.Mathlib.Omega.{arith}
-use mathlib.Core.Path.{ap, _∙_}
+use mathlib.Core.Path.{refl, ap}
 use lib.Seq.{sets, take-all}
 use borrow.Author.Needs.{needs}
-use Rattle.store.proofs.OverLaws.{few-part, part-ends}
+use Rattle.blocks.proofs.BlockLaws.{few-part}
+use Rattle.store.proofs.OverLaws.{part-ends}
 use Rattle.store.proofs.copy_few.Statement.{statement}
 use Rattle.store.proofs.copy_few.Tie as tie
 
@@ -10,11 +11,9 @@ fours : tie.Need-returns
 fours c =
     let q = c .before .before in
     let p = q .before .before .before .before in
-    let g = p .before .before in
-    let f = g .before in
-    let a = f .before .before .before .before .args in
-    part-ends (a .part .now) (a .out .now) (a .at) 4 4 (omega arith) (omega arith)
-    (p .put-four .ensures ∙ ap (sets (a .out .now) (a .at)) (f .four-at .ensures)) (omega arith) (g .four-at2 .ensures) (q .put-four2 .ensures)
+    let a = p .before .before .before .before .before .args in
+    part-ends (a .part .now) (a .out .now) (a .at) 4 4 (omega arith) (omega arith) (p .copy-four .ensures) (omega arith) refl
+    (q .copy-four2 .ensures)
 
 none : tie.Need-returns-2
 none c =
@@ -30,6 +29,5 @@ few c =
 pub copy-few-spec : {M : Type 1} → statement M
 copy-few-spec =
     tie.close
-    (tie.spec (λ c κs. search needs) (λ c κs. search needs) (λ c κs. search needs) (λ c. search needs) (λ c. search needs)
-    (λ c κs. search needs) (λ c. search needs) fours none (λ c. search needs) (λ c. search needs) (λ c. search needs) (λ c. search needs)
-    (λ c κs. search needs) (λ c. search needs) few)
+    (tie.spec (λ c κs. search needs) (λ c. search needs) (λ c. search needs) (λ c κs. search needs) (λ c. search needs) fours none
+    (λ c. search needs) (λ c. search needs) (λ c. search needs) (λ c. search needs) (λ c κs. search needs) (λ c. search needs) few)

@@ -1,6 +1,7 @@
 use native.Mathlib.Omega.{arith}
 use borrow.Author.Needs.{needs}
-use Rattle.store.proofs.OverLaws.{few-free, fill-ends}
+use Rattle.blocks.proofs.BlockLaws.{few-free}
+use Rattle.store.proofs.OverLaws.{fill-ends}
 use Rattle.store.proofs.fill_few.Statement.{statement}
 use Rattle.store.proofs.fill_few.Tie as tie
 

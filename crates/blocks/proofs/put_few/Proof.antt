@@ -1,9 +1,9 @@
 use native.Mathlib.Omega.{arith}
 use lib.ListN.{length-set}
 use borrow.Author.Needs.{needs}
-use Rattle.store.proofs.OverLaws.{few-put}
-use Rattle.store.proofs.put_few.Statement.{statement}
-use Rattle.store.proofs.put_few.Tie as tie
+use Rattle.blocks.proofs.BlockLaws.{few-put}
+use Rattle.blocks.proofs.put_few.Statement.{statement}
+use Rattle.blocks.proofs.put_few.Tie as tie
 
 returns : tie.Need-returns
 returns c = let a = c .args in few-put (a .out .now) (a .at) (a .n) (a .first) (a .middle) (a .last) (c .pre .least) (c .pre .most)
