@@ -18,7 +18,7 @@ use Rattle.packet.specs.Message.{Msg}
 use Rattle.packet.specs.Answer.{readNumber, readState}
 use Rattle.packet.proofs.CounterLaws.{exceeds-known, valid-without, not-valid}
 use Rattle.packet.proofs.RowLaws.{length-table, state-unread}
-use Rattle.packet.proofs.ReaderLaws.{Unread, refused-anyway, read-keeps, exactly-unread, exactly-accepted, rows-front, same-rows, same-state}
+use Rattle.packet.proofs.ReaderLaws.{Alike, Unread, refused-anyway, read-keeps, exactly-unread, exactly-accepted, rows-front, same-rows, same-state}
 use Rattle.flexray.specs.declared.Setting.{Setting}
 use Rattle.flexray.specs.Setting.{fields, H, L, W, sound}
 use Rattle.flexray.specs.Layout.{Sized, Frame}
@@ -170,7 +170,7 @@ frame-unaltered c (m ∷ ms) = refl
 
 -- the state is neither read nor altered
 module _ (s : Setting) (t : List ℕ) (none : W s ≡ 0) (rows : List ℕ) where
-  pub counter-unread : (b c : Counter) → readOf s t b rows .lent ≡ readOf s t c rows .lent
+  pub counter-unread : (b c : Counter) → Alike (readOf s t b rows) (readOf s t c rows)
   unfolding readOf
   counter-unread b c =
       rw (none, valid-without b, valid-without c)

@@ -13,6 +13,15 @@ abbrev pub toldOf : Reading → Told
 toldOf (R.Rows k c) = T.Rows k
 toldOf (R.Refused n p) = T.Refused n p
 
+-- the refusal's number, 0 where it read; the row count, or the refusal's place
+abbrev pub toldNumber : Told → ℕ
+toldNumber (T.Rows k) = 0
+toldNumber (T.Refused n p) = n
+
+abbrev pub toldValue : Told → ℕ
+toldValue (T.Rows k) = k
+toldValue (T.Refused n p) = p
+
 -- what a contract says of a call with the state c lent: it tells r, and leaves the state at d and the lent numbers at `left`
 pub record Tells (a : Answer Reading) (c : Counter) (r : Told) (d : Counter) (left : List ℕ) : Type 0 where
   pub told : r ≡ toldOf (a .answer)

@@ -143,21 +143,27 @@ module _ (tab : List Msg → List ℕ) (state : List Msg → Counter) (rows : Li
 
 ---- Without a counter ----------------------------------------------------------------------------------------------------------
 
+-- two answers agree but for the state: in number, in row count or place, and in the table
+pub record Alike (a b : Answer Reading) : Type 0 where
+  pub number : readNumber (a .answer) ≡ readNumber (b .answer)
+  pub value : readValue (a .answer) ≡ readValue (b .answer)
+  pub lent : a .lent ≡ b .lent
+
 module _ (tab : List Msg → List ℕ) (state : List Msg → Counter) (rows : List ℕ) (held : Bool) (o : Out Msg) where
-  -- readers whose rows agree leave the same table
+  -- readers whose rows agree give answers that do
   pub same-rows : (tab′ : List Msg → List ℕ) (state′ : List Msg → Counter) → ((ms : List Msg) → tab ms ≡ tab′ ms)
-      → answered tab state rows held o .lent ≡ answered tab′ state′ rows held o .lent
+      → Alike (answered tab state rows held o) (answered tab′ state′ rows held o)
   unfolding settled
   same-rows tab′ state′ h = at (cond held o (refused 1 0))
     where
-      fill : (b : Bool) (ms : List Msg) → cond b (record { answer = R.Refused 4 0; lent = rows }) (given tab state rows ms) .lent
-          ≡ cond b (record { answer = R.Refused 4 0; lent = rows }) (given tab′ state′ rows ms) .lent
-      fill true ms = refl
-      fill false ms = ap (sets rows 0) (h ms)
+      fill : (b : Bool) (ms : List Msg) → Alike (cond b (record { answer = R.Refused 4 0; lent = rows }) (given tab state rows ms))
+          (cond b (record { answer = R.Refused 4 0; lent = rows }) (given tab′ state′ rows ms))
+      fill true ms = record { number = refl; value = refl; lent = refl }
+      fill false ms = record { number = refl; value = refl; lent = ap (sets rows 0) (h ms) }
 
-      at : (r : Out Msg) → settled R.Refused (rowsTold tab state rows) (fewNumbers rows) tab rows r .lent
-          ≡ settled R.Refused (rowsTold tab′ state′ rows) (fewNumbers rows) tab′ rows r .lent
-      at (refused n p) = refl
+      at : (r : Out Msg) → Alike (settled R.Refused (rowsTold tab state rows) (fewNumbers rows) tab rows r)
+          (settled R.Refused (rowsTold tab′ state′ rows) (fewNumbers rows) tab′ rows r)
+      at (refused n p) = record { number = refl; value = refl; lent = refl }
       at (list ms) = fill (fewNumbers rows ms) ms
 
   -- a reader whose messages leave the state c leaves it

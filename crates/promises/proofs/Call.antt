@@ -14,17 +14,41 @@ use Rattle.packet.specs.declared.Writing.the-variants as W
 use Rattle.packet.specs.Message.{Msg}
 use Rattle.packet.specs.Counter.{holds, later}
 use Rattle.packet.specs.Packets.{joined, packets, Matched}
-use Rattle.packet.specs.Answer.{Answer, Gives, Accepted, readNumber, readState, writeNumber, writeCounter}
+use Rattle.packet.specs.Answer.{Answer, Gives, Accepted, readNumber, readState}
 use Rattle.packet.proofs.AnswerLaws.{exactly}
 use Rattle.packet.proofs.CounterLaws.{later-is, later-without, held}
 use Rattle.packet.proofs.PacketsLaws.{Each, packets-lengths, packets-joined}
 use Rattle.packet.proofs.SeenLaws.{Shown}
-use Rattle.lent.specs.declared.Told.{Told}
-use Rattle.lent.specs.Told.{toldOf, Tells}
 
--- every call is answered
+-- every call is answered: no entry point asks anything (Tied has a line for each), and a contract's definition gives an answer for every input
 pub answered : {E : Type 0} (a : Answer E) → (r : E) × (left : List ℕ) × Gives a r left
 answered a = (a .answer, a .lent, record { answer = refl; lent = refl })
+
+---- Any call -------------------------------------------------------------------------------------------------------------------
+
+-- A call that was lent a table or an output, answers r, and leaves what was lent at `left`. `Refusal n p` says that document 01's table gives n at p;
+-- `Accept k d` that nothing is refused, with k rows or bytes, and that the state or counter d follows
+module _ {E C : Type 0} (refuse : ℕ → ℕ → E) (accept : ℕ → C → E) (Refusal : ℕ → ℕ → Type 0) (Accept : ℕ → C → Type 0)
+    (lent : List ℕ) where
+  pub record Answers (r : E) (left : List ℕ) : Type 0 where
+    -- it is refused with n at p exactly when the table says so
+    pub refused : (n p : ℕ) → (r ≡ refuse n p) ↔ Refusal n p
+    -- a refusal has a number from 1 to 8, and changes nothing of what was lent
+    pub refusal : (n p : ℕ) → r ≡ refuse n p → (0 < n) × (n ≤ 8) × (left ≡ lent)
+    -- it is accepted with k and d exactly when nothing is refused
+    pub accepted : (k : ℕ) (d : C) → (r ≡ accept k d) ↔ Accept k d
+
+module _ {E C : Type 0} {refuse : ℕ → ℕ → E} {accept : ℕ → C → E} {Refusal : ℕ → ℕ → Type 0} {Accept : ℕ → C → Type 0}
+    {lent : List ℕ} {a : Answer E} (refuses : (n p : ℕ) → (a .answer ≡ refuse n p) ↔ Refusal n p)
+    (number : (n p : ℕ) → Refusal n p → (0 < n) × (n ≤ 8)) (keeps : (n p : ℕ) → 0 < n → a .answer ≡ refuse n p → a .lent ≡ lent)
+    (accepts : (k : ℕ) (d : C) → (a .answer ≡ accept k d) ↔ Accept k d) where
+  pub answers-promised : {r : E} {left : List ℕ} → Gives a r left → Answers refuse accept Refusal Accept lent r left
+  answers-promised {r} {left} g = record { refused = λ n p. exactly g (refuses n p); refusal = refusal; accepted = λ k d. exactly g (accepts k d) }
+    where
+      refusal : (n p : ℕ) → r ≡ refuse n p → (0 < n) × (n ≤ 8) × (left ≡ lent)
+      refusal n p e =
+          let (least, most) = number n p (exactly g (refuses n p) .0 e) in
+          (least, most, g .lent ∙ keeps n p least (sym (g .answer) ∙ e))
 
 ---- Readers --------------------------------------------------------------------------------------------------------------------
 
@@ -32,12 +56,10 @@ answered a = (a .answer, a .lent, record { answer = refl; lent = refl })
 abbrev pub IsRows : Reading → Type 0
 IsRows r = (k : ℕ) × (d : Counter) × (r ≡ R.Rows k d)
 
--- A read of t into the table rows, that answers r and leaves the table at `left`. `Whole ms` says that t holds the messages ms; their rows are `tab ms`,
--- and they leave the state `state ms`
-module _ (Whole : List Msg → Type 0) (tab : List Msg → List ℕ) (state : List Msg → Counter) (t rows : List ℕ) (r : Reading) (left : List ℕ) where
+-- A read of t into the table rows, that leaves the table at `left`. `Whole ms` says that t holds the messages ms; their rows are `tab ms`
+module _ (Whole : List Msg → Type 0) (tab : List Msg → List ℕ) (t rows left : List ℕ) where
   -- it gives the messages ms
   pub record Given (ms : List Msg) : Type 0 where
-    pub told : r ≡ R.Rows (length ms) (state ms)
     -- their rows stand at the front of the table, and those behind are unchanged
     pub front : take (5 * length ms) left ≡ tab ms
     pub past : drop (5 * length ms) left ≡ drop (5 * length ms) rows
@@ -46,45 +68,34 @@ module _ (Whole : List Msg → Type 0) (tab : List Msg → List ℕ) (state : Li
     -- no other list makes up the input
     pub only : (ns : List Msg) → Whole ns → ns ≡ ms
 
--- The same with the state c. `Refusal n p` says that document 01's table gives n at p, and `Fine` that neither the setting nor the state is refused
+-- The same, that answers r. `Refusal` and what is accepted are as above: `Fine` says that neither the setting nor the state is refused, and the messages
+-- ms leave the state `state ms`
 module _ (Refusal : ℕ → ℕ → Type 0) (Fine : Type 0) (Whole : List Msg → Type 0) (tab : List Msg → List ℕ) (state : List Msg → Counter)
-    (t : List ℕ) (c : Counter) (rows : List ℕ) (r : Reading) (left : List ℕ) where
-  pub record Read : Type 0 where
-    -- it is refused with n at p exactly when the table says so
-    pub refused : (n p : ℕ) → (r ≡ R.Refused n p) ↔ Refusal n p
-    -- a refusal has a number from 1 to 8, writes nothing and leaves the state
-    pub refusal : (n p : ℕ) → r ≡ R.Refused n p → (0 < n) × (n ≤ 8) × (left ≡ rows) × (readState c r ≡ c)
-    -- it is accepted with k rows and the state d exactly when some list makes up the input and has room, with that list's count and state
-    pub accepted : (k : ℕ) (d : Counter) → (r ≡ R.Rows k d) ↔ Accepted Fine Whole state (length rows) k d
+    (t rows : List ℕ) where
+  pub record Read (r : Reading) (left : List ℕ) : Type 0 where
+    pub answers : Answers R.Refused R.Rows Refusal (Accepted Fine Whole state (length rows)) rows r left
     -- Demand 3: it is accepted exactly if some list of messages makes up the input and the table has room, at most one list does, and it gives that list
     pub demand : IsRows r ↔ ((ms : List Msg) × Fine × Whole ms × (5 * length ms ≤ length rows))
-    pub gives : (ms : List Msg) → Fine → Whole ms → 5 * length ms ≤ length rows → Given Whole tab state t rows r left ms
+    pub gives : (ms : List Msg) → Fine → Whole ms → 5 * length ms ≤ length rows
+        → (r ≡ R.Rows (length ms) (state ms)) × Given Whole tab t rows left ms
 
 -- it keeps all that where the laws of its transport hold
 module _ {Refusal : ℕ → ℕ → Type 0} {Fine : Type 0} {Whole : List Msg → Type 0} {tab : List Msg → List ℕ} {state : List Msg → Counter}
-    {t : List ℕ} {c : Counter} {rows : List ℕ} {r : Reading} {left : List ℕ} {a : Answer Reading}
+    {t : List ℕ} {c : Counter} {rows : List ℕ} {a : Answer Reading}
     (refuses : (n p : ℕ) → (a .answer ≡ R.Refused n p) ↔ Refusal n p) (number : (n p : ℕ) → Refusal n p → (0 < n) × (n ≤ 8))
     (keeps : 0 < readNumber (a .answer) → (a .lent ≡ rows) × (readState c (a .answer) ≡ c))
     (accepts : (k : ℕ) (d : Counter) → (a .answer ≡ R.Rows k d) ↔ Accepted Fine Whole state (length rows) k d)
     (put : (ms : List Msg) → Fine → Whole ms → 5 * length ms ≤ length rows
     → (take (5 * length ms) (a .lent) ≡ tab ms) × (drop (5 * length ms) (a .lent) ≡ drop (5 * length ms) rows))
     (unique : (ms ns : List Msg) → Whole ms → Whole ns → ms ≡ ns) (shows : (ms : List Msg) → Whole ms → Each (Shown t) ms) where
-  pub read-promised : Gives a r left → Read Refusal Fine Whole tab state t c rows r left
-  read-promised g =
+  pub read-promised : {r : Reading} {left : List ℕ} → Gives a r left → Read Refusal Fine Whole tab state t rows r left
+  read-promised {r} {left} g =
       record {
-        refused = λ n p. exactly g (refuses n p);
-        refusal = refusal;
-        accepted = λ k d. exactly g (accepts k d);
+        answers = answers-promised refuses number (λ n p l e. keeps (rw e l) .0) accepts g;
         demand = (from, λ x. (length (x .0), state (x .0), told (x .0) (x .1) (x .2) (x .3)));
-        gives = given;
+        gives = λ ms f x l. (told ms f x l, given ms f x l);
       }
     where
-      refusal : (n p : ℕ) → r ≡ R.Refused n p → (0 < n) × (n ≤ 8) × (left ≡ rows) × (readState c r ≡ c)
-      refusal n p e =
-          let (least, most) = number n p (exactly g (refuses n p) .0 e) in
-          let x : a .answer ≡ R.Refused n p = sym (g .answer) ∙ e in
-          (least, most, g .lent ∙ keeps (rw x least) .0, rw e)
-
       from : IsRows r → (ms : List Msg) × Fine × Whole ms × (5 * length ms ≤ length rows)
       from x = let y = exactly g (accepts (x .0) (x .1)) .0 (x .2) in (y .messages, y .fine, y .whole, y .room)
 
@@ -93,48 +104,16 @@ module _ {Refusal : ℕ → ℕ → Type 0} {Fine : Type 0} {Whole : List Msg �
           exactly g (accepts (length ms) (state ms)) .1
           (record { fine = f; messages = ms; whole = x; room = l; count = refl; left = refl })
 
-      given : (ms : List Msg) → Fine → Whole ms → 5 * length ms ≤ length rows → Given Whole tab state t rows r left ms
+      given : (ms : List Msg) → Fine → Whole ms → 5 * length ms ≤ length rows → Given Whole tab t rows left ms
       given ms f x l =
           record {
-            told = told ms f x l;
             front = rw (g .lent) (put ms f x l .0);
             past = rw (g .lent) (put ms f x l .1);
             shown = shows ms x;
             only = λ ns y. unique ns ms y x;
           }
 
----- The state lent -------------------------------------------------------------------------------------------------------------
-
--- a read with the state lent tells the same as a read by value, advances the state where it lies, and leaves the same table
-pub as-by-value : {c : Counter} {a : Answer Reading} {r : Reading} {left : List ℕ} → Gives a r left
-    → {u : Told} {d : Counter} {past : List ℕ} → Tells a c u d past → (u ≡ toldOf r) × (d ≡ readState c r) × (past ≡ left)
-as-by-value {c} g h = (h .told ∙ sym (ap toldOf (g .answer)), h .state ∙ sym (ap (readState c) (g .answer)), h .lent ∙ sym (g .lent))
-
 ---- Writers --------------------------------------------------------------------------------------------------------------------
-
--- A write with the first counter c into the output, that answers r and leaves the output at `left`. `Accept k d`: nothing is refused, and k bytes are
--- written, and d is the next counter
-module _ (Refusal Accept : ℕ → ℕ → Type 0) (c : ℕ) (out : List ℕ) (r : Writing) (left : List ℕ) where
-  pub record Write : Type 0 where
-    -- it is refused with n at p exactly when the table says so
-    pub refused : (n p : ℕ) → (r ≡ W.Refused n p) ↔ Refusal n p
-    -- a refusal has a number from 1 to 8, writes nothing and leaves the counter
-    pub refusal : (n p : ℕ) → r ≡ W.Refused n p → (0 < n) × (n ≤ 8) × (left ≡ out) × (writeCounter c r ≡ c)
-    -- it is accepted with k bytes and the next counter d exactly when nothing is refused
-    pub accepted : (k d : ℕ) → (r ≡ W.Bytes k d) ↔ Accept k d
-
-module _ {Refusal Accept : ℕ → ℕ → Type 0} {c : ℕ} {out : List ℕ} {r : Writing} {left : List ℕ} {a : Answer Writing}
-    (refuses : (n p : ℕ) → (a .answer ≡ W.Refused n p) ↔ Refusal n p) (number : (n p : ℕ) → Refusal n p → (0 < n) × (n ≤ 8))
-    (keeps : 0 < writeNumber (a .answer) → (a .lent ≡ out) × (writeCounter c (a .answer) ≡ c))
-    (accepts : (k d : ℕ) → (a .answer ≡ W.Bytes k d) ↔ Accept k d) where
-  pub write-promised : Gives a r left → Write Refusal Accept c out r left
-  write-promised g = record { refused = λ n p. exactly g (refuses n p); refusal = refusal; accepted = λ k d. exactly g (accepts k d) }
-    where
-      refusal : (n p : ℕ) → r ≡ W.Refused n p → (0 < n) × (n ≤ 8) × (left ≡ out) × (writeCounter c r ≡ c)
-      refusal n p e =
-          let (least, most) = number n p (exactly g (refuses n p) .0 e) in
-          let x : a .answer ≡ W.Refused n p = sym (g .answer) ∙ e in
-          (least, most, g .lent ∙ keeps (rw x least) .0, rw e)
 
 -- A write of packets of the lengths ns in the joined bytes bs, with the first counter c of w bytes, that comes to the bytes `made` and moves the
 -- counter by n; it answers k bytes and the next counter d, and leaves the output at `left`

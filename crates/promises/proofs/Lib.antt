@@ -1,7 +1,9 @@
 pub mod Call
 pub mod Flexray
+pub mod Numbers
 pub mod OneResult
 pub mod Promises
 pub mod ShutOut
 pub mod Starred
+pub mod Tied
 pub mod Usb

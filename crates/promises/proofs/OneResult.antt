@@ -1,136 +1,177 @@
--- For every input a contract determines what its function answers, and what it leaves of what was lent: any two results that it allows are equal.
--- One line for each public function, with the contract as the function's code cites it.
+-- For every input a contract determines what its function answers, and what it leaves of what was lent: any two results that it allows are equal. One line
+-- for each entry point and for each other public function that asks nothing, about the contract that stands in its code (`Post`: see Tied). Inner
+-- functions that ask something are public for our own crates only: docs/DECISIONS.md lists them.
 use Prim.Native.Nat.{ℕ}
 use mathlib.Core.Path.{_≡_, sym, _∙_}
-use mathlib.Core.Bool.{Bool, cond, _&&_, _||_}
 use mathlib.Core.List.{List}
-use lib.Seq.{sets}
-use lib.Dec.{ltb}
-use Rattle.layout.specs.Field.{shape, bytes}
-use Rattle.layout.specs.Leaf.{Number}
+use Rattle.layout.proofs.all.Reads as All
+use Rattle.layout.proofs.both.Reads as BothTests
+use Rattle.layout.proofs.either.Reads as Either
+use Rattle.layout.proofs.field.Reads as Field
+use Rattle.layout.proofs.least.Reads as Least
+use Rattle.layout.proofs.pick.Reads as Pick
+use Rattle.layout.proofs.put_field.Reads as PutField
+use Rattle.layout.proofs.wide32.Reads as Wide
 use Rattle.packet.specs.declared.Counter.{Counter}
-use Rattle.packet.specs.Answer.{Gives}
-use Rattle.packet.specs.Counter.{difference, fresh}
-use Rattle.packet.specs.Kind.{kindOf}
-use Rattle.packet.specs.Limit.{mostBytes}
-use Rattle.packet.specs.Packets.{mismatched as mismatchedOf}
-use Rattle.packet.specs.Part.{partOf, checkOf}
+use Rattle.packet.specs.declared.Reading.{Reading}
+use Rattle.packet.specs.Answer.{Answer}
 use Rattle.packet.proofs.AnswerLaws.{one-result}
+use Rattle.packet.proofs.Counter.fresh.Reads as Fresh
+use Rattle.packet.proofs.gap8.Reads as GapOne
+use Rattle.packet.proofs.gap16.Reads as GapTwo
+use Rattle.packet.proofs.kind.Reads as Kind
+use Rattle.packet.proofs.part_check.Reads as Check
+use Rattle.packet.proofs.part.Reads as Part
 use Rattle.lent.specs.declared.Told.{Told}
 use Rattle.lent.specs.Told.{Tells}
 use Rattle.lent.proofs.ThinCounter.{one-telling}
-use Rattle.usb.specs.declared.Setting as UsbSetting
-use Rattle.usb.specs.Setting as U
-use Rattle.usb.specs.Reading as UsbReading
-use Rattle.usb.specs.Writing as UsbWriting
-use Rattle.usb_plan.specs.Plan as UsbPlan
+use Rattle.lengths.proofs.mismatched.Reads as Mismatched
+use Rattle.lengths.proofs.crowded.Reads as Crowded
+use Rattle.usb.proofs.shape.Reads as UsbShape
 use Rattle.usb_plan.proofs.PlanLaws as UsbPlans
-use Rattle.flexray.specs.declared.Setting as FlexRaySetting
-use Rattle.flexray.specs.Setting as F
-use Rattle.flexray.specs.Table.{entry}
-use Rattle.flexray.specs.Reading as FlexRayReading
-use Rattle.flexray.specs.Writing as FlexRayWriting
-use Rattle.flexray_plan.specs.Plan as FlexRayPlan
+use Rattle.usb_plan.proofs.plan_for.Reads as UsbPlanFor
+use Rattle.usb_reader.proofs.read.Reads as UsbRead
+use Rattle.usb_writer.proofs.write.Reads as UsbWrite
+use Rattle.flexray.proofs.listed.Reads as FlexRayListed
 use Rattle.flexray_plan.proofs.PlanLaws as FlexRayPlans
+use Rattle.flexray_plan.proofs.plan_for.Reads as FlexRayPlanFor
+use Rattle.flexray_reader.proofs.read.Reads as FlexRayRead
+use Rattle.flexray_writer.proofs.write.Reads as FlexRayWrite
+use Rattle.rowtext.proofs.ReportLaws.{one-report}
+use Rattle.rowtext.proofs.report.Reads as Report
+use Rattle.plumagemud.proofs.ResultLaws.{one-read, one-written}
+use Rattle.plumagemud.proofs.xcp_usb_read.Reads as CUsbRead
+use Rattle.plumagemud.proofs.xcp_usb_write.Reads as CUsbWrite
+use Rattle.plumagemud.proofs.xcp_flexray_read.Reads as CFlexRayRead
+use Rattle.plumagemud.proofs.xcp_flexray_write.Reads as CFlexRayWrite
+use Rattle.plumagemud.proofs.xcp_part_check.Reads as CCheck
+use Rattle.plumagemud.proofs.xcp_kind.Reads as CKind
 
--- any two results that a contract allows are equal
-abbrev pub One : {A : Type 0} → (A → Type 0) → Type 0
-One {A} contract = (r u : A) → contract r → contract u → r ≡ u
+-- any two answers r and u that a contract allows are equal; e and f are the parameters as the call leaves them
+abbrev pub One : {R E : Type 0} → (R → E → Type 0) → Type 0
+One {R} {E} Post = (r u : R) (e f : E) → Post r e → Post u f → r ≡ u
 
--- the same of an answer and what is left of what was lent
-abbrev pub Both : {A B : Type 0} → (A → B → Type 0) → Type 0
-Both {A} {B} contract = (r u : A) (left past : B) → contract r left → contract u past → (r ≡ u) × (left ≡ past)
+-- the same of an answer and of what is left of what was lent, which `left` takes out of e
+abbrev pub Both : {R E : Type 0} → (E → List ℕ) → (R → E → Type 0) → Type 0
+Both {R} {E} left Post = (r u : R) (e f : E) → Post r e → Post u f → (r ≡ u) × (left e ≡ left f)
 
-same : {A : Type 0} (x : A) → One (λ r. r ≡ x)
-same x r u g h = g ∙ sym h
+-- what is equal to one thing is equal
+same : {A : Type 0} {x r u : A} → r ≡ x → u ≡ x → r ≡ u
+same g h = g ∙ sym h
 
 ---- Readers and writers --------------------------------------------------------------------------------------------------------
 
-pub usb-read : (s : UsbSetting.Setting) (t : List ℕ) (c : Counter) (rows : List ℕ) → Both (Gives (UsbReading.readOf s t c rows))
-usb-read s t c rows r u left past = one-result
+pub usb-read : (x : _) (a : _) → Both (λ e. e .1 .1 .1 .0 .now) (UsbRead.Post x a)
+usb-read x a r u e f = one-result
 
-pub usb-write : (s : UsbSetting.Setting) (bs ns : List ℕ) (c fill : ℕ) (full : Bool) (out : List ℕ)
-    → Both (Gives (UsbWriting.writeOf s bs ns c fill full out))
-usb-write s bs ns c fill full out r u left past = one-result
+pub usb-write : (x : _) (a : _) → Both (λ e. e .1 .1 .1 .1 .1 .1 .0 .now) (UsbWrite.Post x a)
+usb-write x a r u e f = one-result
 
-pub flexray-read : (s : FlexRaySetting.Setting) (t : List ℕ) (c : Counter) (rows : List ℕ) → Both (Gives (FlexRayReading.readOf s t c rows))
-flexray-read s t c rows r u left past = one-result
+pub flexray-read : (x : _) (a : _) → Both (λ e. e .1 .1 .1 .0 .now) (FlexRayRead.Post x a)
+flexray-read x a r u e f = one-result
 
-pub flexray-write : (s : FlexRaySetting.Setting) (bs ns : List ℕ) (c fill : ℕ) (out : List ℕ)
-    → Both (Gives (FlexRayWriting.writeOf s bs ns c fill out))
-flexray-write s bs ns c fill out r u left past = one-result
+pub flexray-write : (x : _) (a : _) → Both (λ e. e .1 .1 .1 .1 .1 .0 .now) (FlexRayWrite.Post x a)
+flexray-write x a r u e f = one-result
 
--- with the state lent: what is told, the state and the table
-pub usb-read-lent : (s : UsbSetting.Setting) (t : List ℕ) (c : Counter) (rows : List ℕ) (r u : Told) (d e : Counter) (left past : List ℕ)
-    → Tells (UsbReading.readOf s t c rows) c r d left → Tells (UsbReading.readOf s t c rows) c u e past → (r ≡ u) × (d ≡ e) × (left ≡ past)
-usb-read-lent s t c rows r u d e left past = one-telling
-
-pub flexray-read-lent : (s : FlexRaySetting.Setting) (t : List ℕ) (c : Counter) (rows : List ℕ) (r u : Told) (d e : Counter) (left past : List ℕ)
-    → Tells (FlexRayReading.readOf s t c rows) c r d left → Tells (FlexRayReading.readOf s t c rows) c u e past
+-- with the state lent, by what the clauses of usb_reader's and flexray_reader's read_lent come to (Tied `usb-lent`, `flexray-lent`): what is told, the state
+-- and the table
+pub read-lent : {a : Answer Reading} {c : Counter} (r u : Told) (d e : Counter) (left past : List ℕ) → Tells a c r d left → Tells a c u e past
     → (r ≡ u) × (d ≡ e) × (left ≡ past)
-flexray-read-lent s t c rows r u d e left past = one-telling
+read-lent r u d e left past = one-telling
+
+---- C --------------------------------------------------------------------------------------------------------------------------
+
+pub c-usb-read : (x : _) (a : _) → Both (λ e. e .1 .1 .1 .0 .now) (CUsbRead.Post x a)
+c-usb-read x a r u e f = one-read
+
+pub c-usb-write : (x : _) (a : _) → Both (λ e. e .1 .1 .1 .1 .1 .1 .0 .now) (CUsbWrite.Post x a)
+c-usb-write x a r u e f = one-written
+
+pub c-flexray-read : (x : _) (a : _) → Both (λ e. e .1 .1 .1 .0 .now) (CFlexRayRead.Post x a)
+c-flexray-read x a r u e f = one-read
+
+pub c-flexray-write : (x : _) (a : _) → Both (λ e. e .1 .1 .1 .1 .1 .0 .now) (CFlexRayWrite.Post x a)
+c-flexray-write x a r u e f = one-written
+
+pub c-part-check : (x : _) (a : _) → One (CCheck.Post x a)
+c-part-check x a r u e f = same
+
+pub c-kind : (x : _) (a : _) → One (CKind.Post x a)
+c-kind x a r u e f = same
+
+---- The program ----------------------------------------------------------------------------------------------------------------
+
+-- the length of the text, and the output; what is left of the table is not told (docs/DECISIONS.md)
+pub report : (x : _) (a : _) → Both (λ e. e .1 .1 .0 .now) (Report.Post x a)
+report x a r u e f = one-report
 
 ---- Settings -------------------------------------------------------------------------------------------------------------------
 
-pub usb-shape : (header : ℕ) → One (λ r. r ≡ shape (U.header header))
-usb-shape header = same (shape (U.header header))
+pub usb-shape : (x : _) (a : _) → One (UsbShape.Post x a)
+usb-shape x a r u e f = same
 
 -- the plan of a setting, or that it is not sound
-pub usb-plan-for : (s : UsbSetting.Setting) → One (UsbPlan.PlannedAs s)
-usb-plan-for = UsbPlans.one-plan
+pub usb-plan-for : (x : _) (a : _) → One (UsbPlanFor.Post x a)
+usb-plan-for x a r u e f = UsbPlans.one-plan (a .0) r u
 
-pub flexray-listed : (header : ℕ) → One (λ r. r ≡ entry (F.header header))
-flexray-listed header = same (entry (F.header header))
+pub flexray-listed : (x : _) (a : _) → One (FlexRayListed.Post x a)
+flexray-listed x a r u e f = same
 
-pub flexray-plan-for : (s : FlexRaySetting.Setting) → One (FlexRayPlan.PlannedAs s)
-flexray-plan-for = FlexRayPlans.one-plan
+pub flexray-plan-for : (x : _) (a : _) → One (FlexRayPlanFor.Post x a)
+flexray-plan-for x a r u e f = FlexRayPlans.one-plan (a .0) r u
 
 ---- Packets --------------------------------------------------------------------------------------------------------------------
 
-pub counter-fresh : One (λ r. r ≡ fresh)
-counter-fresh = same fresh
+pub counter-fresh : (x : _) (a : _) → One (Fresh.Post x a)
+counter-fresh x a r u e f = same
 
-pub gap8 : (received expected : ℕ) → One (λ r. r ≡ difference 1 received expected)
-gap8 received expected = same (difference 1 received expected)
+pub gap8 : (x : _) (a : _) → One (GapOne.Post x a)
+gap8 x a r u e f = same
 
-pub gap16 : (received expected : ℕ) → One (λ r. r ≡ difference 2 received expected)
-gap16 received expected = same (difference 2 received expected)
+pub gap16 : (x : _) (a : _) → One (GapTwo.Post x a)
+gap16 x a r u e f = same
 
-pub kind : (direction : ℕ) (packet : List ℕ) → One (λ r. r ≡ kindOf direction packet)
-kind direction packet = same (kindOf direction packet)
+pub kind : (x : _) (a : _) → One (Kind.Post x a)
+kind x a r u e f = same
 
-pub part-check : (input : List ℕ) (place n : ℕ) → One (λ r. r ≡ checkOf input place n)
-part-check input place n = same (checkOf input place n)
+pub part-check : (x : _) (a : _) → One (Check.Post x a)
+part-check x a r u e f = same
 
 -- the bytes that the part shows
-pub part : (input : List ℕ) (place n : ℕ) → One (λ r. r ≡ partOf input place n)
-part input place n = same (partOf input place n)
+pub part : (x : _) (a : _) (r u : _) (e f : _) → Part.Post x a r e → Part.Post x a u f → r .now ≡ u .now
+part x a r u e f = same
 
 ---- What writers check ---------------------------------------------------------------------------------------------------------
 
-pub mismatched : (ns bs : List ℕ) → One (λ r. r ≡ mismatchedOf ns bs)
-mismatched ns bs = same (mismatchedOf ns bs)
+pub mismatched : (x : _) (a : _) → One (Mismatched.Post x a)
+mismatched x a r u e f = same
 
-pub crowded : (room n : ℕ) → One (λ r. r ≡ (ltb room n || ltb mostBytes n))
-crowded room n = same (ltb room n || ltb mostBytes n)
+pub crowded : (x : _) (a : _) → One (Crowded.Post x a)
+crowded x a r u e f = same
 
----- Fields and tests -----------------------------------------------------------------------------------------------------------
+---- Fields, numbers and tests --------------------------------------------------------------------------------------------------
 
-pub field : (t : List ℕ) (at width : ℕ) → One (Number t at width)
-field t at width r u g h = g .is ∙ sym (h .is)
+pub field : (x : _) (a : _) → One (Field.Post x a)
+field x a r u e f g h = same (g .is) (h .is)
 
 -- the bytes that are left
-pub put-field : (out : List ℕ) (at width n : ℕ) → One (λ left. left ≡ sets out at (bytes width n))
-put-field out at width n = same (sets out at (bytes width n))
+pub put-field : (x : _) (a : _) (r u : _) (e f : _) → PutField.Post x a r e → PutField.Post x a u f → e .0 .now ≡ f .0 .now
+put-field x a r u e f = same
 
-pub both : (a b : Bool) → One (λ r. r ≡ (a && b))
-both a b = same (a && b)
+pub wide32 : (x : _) (a : _) → One (Wide.Post x a)
+wide32 x a r u e f g h = same (g .0) (h .0)
 
-pub all : (a b c : Bool) → One (λ r. r ≡ (a && b && c))
-all a b c = same (a && b && c)
+pub least : (x : _) (a : _) → One (Least.Post x a)
+least x a r u e f = same
 
-pub either : (a b : Bool) → One (λ r. r ≡ (a || b))
-either a b = same (a || b)
+pub pick : (x : _) (a : _) → One (Pick.Post x a)
+pick x a r u e f = same
 
-pub pick : (first : Bool) (a b : ℕ) → One (λ r. r ≡ cond first a b)
-pick first a b = same (cond first a b)
+pub both : (x : _) (a : _) → One (BothTests.Post x a)
+both x a r u e f = same
+
+pub all : (x : _) (a : _) → One (All.Post x a)
+all x a r u e f = same
+
+pub either : (x : _) (a : _) → One (Either.Post x a)
+either x a r u e f = same

@@ -1,87 +1,120 @@
 -- The promises: open this file first. It goes through the three demands, for USB and for FlexRay. Each theorem is about any answer r that the contract of
--- a function allows, and about the lent table or output as the call then leaves it (`left`); `usb-read` and its like in OneResult say that there is only one.
--- What is cited here says more: Usb and Flexray for each transport, Call for what both share, Starred for the examples, ShutOut for programs shut out.
+-- a function allows, and about the lent table or output as the call then leaves it (`left`). Tied shows that these are the functions' own contracts, as
+-- the code states them, and OneResult that each allows one answer only.
+-- What is cited here says more: Usb and Flexray for each transport, Call and Numbers for what both share, Starred and Limits for the examples, ShutOut
+-- for programs shut out.
 use Prim.Native.Nat.{ℕ, _+_, _*_, _%_, _^_, _<_, _≤_}
 use native.Mathlib.Omega.{arith}
-use mathlib.Core.Path.{_≡_}
+use mathlib.Core.Path.{_≡_, refl}
 use mathlib.Core.Bool.{Bool, true}
 use mathlib.Core.Logic.{_↔_}
-use mathlib.Core.List.{List, map}
-use lib.ListN.{length, take}
+use mathlib.Core.List.{List, [], map}
+use lib.ListN.{length, take, drop}
+use borrow.Author.Tests.{le-leb}
 use Rattle.packet.specs.declared.Counter.{Counter}
 use Rattle.packet.specs.declared.Reading.{Reading}
 use Rattle.packet.specs.declared.Reading.the-variants as R
 use Rattle.packet.specs.declared.Writing.{Writing}
 use Rattle.packet.specs.declared.Writing.the-variants as W
-use Rattle.packet.specs.Answer.{readState, writeCounter}
+use Rattle.packet.specs.declared.Checked.{Checked}
+use Rattle.packet.specs.Answer.{Answer, Gives}
 use Rattle.packet.specs.Counter.{valid, difference}
 use Rattle.packet.specs.Message.{Msg}
+use Rattle.packet.specs.Part.{partOf, checkOf, checkNumber, checkPlace}
 use Rattle.packet.specs.Row.{table, behind}
+use Rattle.packet.proofs.AnswerLaws as AnswerLaws
 use Rattle.packet.proofs.CounterLaws.{difference-back, difference-only}
+use Rattle.packet.proofs.PartLaws as PartLaws
+use Rattle.lent.specs.declared.Told.{Told}
+use Rattle.lent.specs.Told.{Tells, toldNumber, toldValue}
 use Rattle.usb.specs.declared.Setting as UsbSetting
 use Rattle.usb.specs.Setting as UsbSize
 use Rattle.usb.specs.Layout.{Transfer}
 use Rattle.usb.specs.Refusal as UsbRefusal
+use Rattle.usb.specs.Reading as UsbReading
+use Rattle.usb.specs.Writing as UsbWriting
 use Rattle.flexray.specs.declared.Setting as FlexRaySetting
 use Rattle.flexray.specs.Setting as FlexRaySize
 use Rattle.flexray.specs.Layout.{Frame}
 use Rattle.flexray.specs.Refusal as FlexRayRefusal
+use Rattle.flexray.specs.Reading as FlexRayReading
+use Rattle.flexray.specs.Writing as FlexRayWriting
 use Rattle.flexray.specs.Row.{frameTable, frameState}
-use Rattle.promises.proofs.Call.{answered, IsRows}
+use Rattle.plumagemud.specs.declared.CheckResult.{CheckResult}
+use Rattle.plumagemud.specs.declared.ReadResult.{ReadResult}
+use Rattle.plumagemud.specs.declared.WriteResult.{WriteResult}
+use Rattle.plumagemud.specs.Result.{checkResult, Reads, Writes}
+use Rattle.promises.proofs.Call as Call
+use Rattle.promises.proofs.Call.{IsRows}
+use Rattle.promises.proofs.Numbers.{Numbers, lent-numbers, c-reads, c-writes}
 use Rattle.promises.proofs.Usb as Usb
 use Rattle.promises.proofs.Flexray as Flexray
-use Rattle.promises.proofs.OneResult as One
 use Rattle.promises.proofs.Starred as Starred
 
 ---- Demand 1: every call is answered, a bad one is refused by number and place, and a refused call changes nothing ----------------
 
+-- A call is answered, whatever it is given: no entry point asks anything (Tied), and each function is proved to end with what its contract says. That an
+-- answer meets a contract, for every input:
+pub answered : {E : Type 0} (a : Answer E) → (r : E) × (left : List ℕ) × Gives a r left
+answered = Call.answered
+
 -- usb_reader::read
 module _ (s : UsbSetting.Setting) (t : List ℕ) (c : Counter) (rows : List ℕ) where
-  pub usb-read-answered : (r : Reading) × (left : List ℕ) × Usb.Reads s t c rows r left
-  usb-read-answered = answered _
-
   module _ {r : Reading} {left : List ℕ} (call : Usb.Reads s t c rows r left) (n p : ℕ) where
     pub usb-read-refused : (r ≡ R.Refused n p) ↔ UsbRefusal.ReadRefusal s t c (length rows) n p
-    usb-read-refused = Usb.reads s t c rows call .refused n p
+    usb-read-refused = Usb.reads s t c rows call .answers .refused n p
 
-    pub usb-read-unchanged : r ≡ R.Refused n p → (0 < n) × (n ≤ 8) × (left ≡ rows) × (readState c r ≡ c)
-    usb-read-unchanged = Usb.reads s t c rows call .refusal n p
+    pub usb-read-unchanged : r ≡ R.Refused n p → (0 < n) × (n ≤ 8) × (left ≡ rows)
+    usb-read-unchanged = Usb.reads s t c rows call .answers .refusal n p
+
+-- usb_reader::read_lent: d is what the call leaves of the state c
+module _ (s : UsbSetting.Setting) (t : List ℕ) (c : Counter) (rows : List ℕ) {u : Told} {d : Counter} {left : List ℕ}
+    (call : Tells (UsbReading.readOf s t c rows) c u d left) where
+  -- what a refusal leaves of the table and of the state: both as they were
+  pub usb-lent-unchanged : 0 < toldNumber u → (toldNumber u ≤ 8) × (left ≡ rows) × (d ≡ c)
+  usb-lent-unchanged = Usb.reads-in-numbers s t c rows (lent-numbers call) .numbers .refusal
 
 -- usb_writer::write
 module _ (s : UsbSetting.Setting) (bs ns : List ℕ) (c fill : ℕ) (full : Bool) (out : List ℕ) where
-  pub usb-write-answered : (r : Writing) × (left : List ℕ) × Usb.Writes s bs ns c fill full out r left
-  usb-write-answered = answered _
-
   module _ {r : Writing} {left : List ℕ} (call : Usb.Writes s bs ns c fill full out r left) (n p : ℕ) where
     pub usb-write-refused : (r ≡ W.Refused n p) ↔ UsbRefusal.WriteRefusal s bs ns c fill full (length out) n p
     usb-write-refused = Usb.writes s bs ns c fill full out call .refused n p
 
-    pub usb-write-unchanged : r ≡ W.Refused n p → (0 < n) × (n ≤ 8) × (left ≡ out) × (writeCounter c r ≡ c)
+    pub usb-write-unchanged : r ≡ W.Refused n p → (0 < n) × (n ≤ 8) × (left ≡ out)
     usb-write-unchanged = Usb.writes s bs ns c fill full out call .refusal n p
 
 -- flexray_reader::read
 module _ (s : FlexRaySetting.Setting) (t : List ℕ) (c : Counter) (rows : List ℕ) where
-  pub flexray-read-answered : (r : Reading) × (left : List ℕ) × Flexray.Reads s t c rows r left
-  flexray-read-answered = answered _
-
   module _ {r : Reading} {left : List ℕ} (call : Flexray.Reads s t c rows r left) (n p : ℕ) where
     pub flexray-read-refused : (r ≡ R.Refused n p) ↔ FlexRayRefusal.ReadRefusal s t c (length rows) n p
-    flexray-read-refused = Flexray.reads s t c rows call .refused n p
+    flexray-read-refused = Flexray.reads s t c rows call .answers .refused n p
 
-    pub flexray-read-unchanged : r ≡ R.Refused n p → (0 < n) × (n ≤ 8) × (left ≡ rows) × (readState c r ≡ c)
-    flexray-read-unchanged = Flexray.reads s t c rows call .refusal n p
+    pub flexray-read-unchanged : r ≡ R.Refused n p → (0 < n) × (n ≤ 8) × (left ≡ rows)
+    flexray-read-unchanged = Flexray.reads s t c rows call .answers .refusal n p
+
+-- flexray_reader::read_lent: d is what the call leaves of the state c
+module _ (s : FlexRaySetting.Setting) (t : List ℕ) (c : Counter) (rows : List ℕ) {u : Told} {d : Counter} {left : List ℕ}
+    (call : Tells (FlexRayReading.readOf s t c rows) c u d left) where
+  -- what a refusal leaves of the table and of the state: both as they were
+  pub flexray-lent-unchanged : 0 < toldNumber u → (toldNumber u ≤ 8) × (left ≡ rows) × (d ≡ c)
+  flexray-lent-unchanged = Flexray.reads-in-numbers s t c rows (lent-numbers call) .numbers .refusal
 
 -- flexray_writer::write
 module _ (s : FlexRaySetting.Setting) (bs ns : List ℕ) (c fill : ℕ) (out : List ℕ) where
-  pub flexray-write-answered : (r : Writing) × (left : List ℕ) × Flexray.Writes s bs ns c fill out r left
-  flexray-write-answered = answered _
-
   module _ {r : Writing} {left : List ℕ} (call : Flexray.Writes s bs ns c fill out r left) (n p : ℕ) where
     pub flexray-write-refused : (r ≡ W.Refused n p) ↔ FlexRayRefusal.WriteRefusal s bs ns c fill (length out) n p
     flexray-write-refused = Flexray.writes s bs ns c fill out call .refused n p
 
-    pub flexray-write-unchanged : r ≡ W.Refused n p → (0 < n) × (n ≤ 8) × (left ≡ out) × (writeCounter c r ≡ c)
+    pub flexray-write-unchanged : r ≡ W.Refused n p → (0 < n) × (n ≤ 8) × (left ≡ out)
     flexray-write-unchanged = Flexray.writes s bs ns c fill out call .refusal n p
+
+-- packet::part_check and packet::part: a part that runs past the input is refused with 5 at its place, and is empty; any other shows exactly its bytes
+module _ (t : List ℕ) (p n : ℕ) {r : Checked} (check : r ≡ checkOf t p n) {shown : List ℕ} (part : shown ≡ partOf t p n) where
+  pub part-refused : length t < p + n → (checkNumber r ≡ 5) × (checkPlace r ≡ p) × (shown ≡ [])
+  part-refused = rw (check, part) (PartLaws.part-outside t p n)
+
+  pub part-shown : p + n ≤ length t → (checkNumber r ≡ 0) × (shown ≡ take n (drop p t)) × (length shown ≡ n)
+  part-shown = rw (check, part) (PartLaws.part-inside t p n)
 
 ---- Demand 2: written bytes are those of document 01, gaps are modulo the counter's size, what was written reads back ------------
 
@@ -138,21 +171,63 @@ module _ (s : FlexRaySetting.Setting) (t : List ℕ) (c : Counter) (rows : List 
   pub flexray-gives : (ms : List Msg) → FlexRayRefusal.Fine s c → Frame s ms t → 5 * length ms ≤ length rows → Flexray.Gave s t c rows r left ms
   flexray-gives = Flexray.demand-3 s t c rows call .1
 
+---- In numbers: what a C caller gets, and one that lends the state -----------------------------------------------------------------
+
+-- `Numbers Refusal Accept lent c n v d left` says of a call with the state or counter c that tells number n, value v and d, and leaves what was lent at `left`:
+--     refused     n is m, a number above 0, and v is p, exactly when document 01's table gives m at p
+--     refusal     where n is not 0 it is at most 8, and nothing is changed: `left` is what was lent, and d is c
+--     accepted    n is 0, v is k and d is e exactly when nothing is refused, with k rows or bytes, and with e behind them
+-- A reader's rows are then those of demand 3: `gives` of `reads-in-numbers` in Usb and Flexray.
+module _ (s : UsbSetting.Setting) (t : List ℕ) (c : Counter) (rows : List ℕ) where
+  abbrev UsbReadNumbers : (n v : ℕ) → Counter → List ℕ → Type 0
+  UsbReadNumbers = Numbers (UsbRefusal.ReadRefusal s t c (length rows)) (UsbRefusal.ReadAccept s t c (length rows)) rows c
+
+  pub usb-lent-numbers : {u : Told} {d : Counter} {left : List ℕ} → Tells (UsbReading.readOf s t c rows) c u d left
+      → UsbReadNumbers (toldNumber u) (toldValue u) d left
+  usb-lent-numbers call = Usb.reads-in-numbers s t c rows (lent-numbers call) .numbers
+
+  pub xcp-usb-read : {x : ReadResult} {left : List ℕ} → Reads (UsbReading.readOf s t c rows) c x left
+      → UsbReadNumbers (x .number) (x .value) (x .counter) left
+  xcp-usb-read call = Usb.reads-in-numbers s t c rows (c-reads call) .numbers
+
+pub xcp-usb-write : (s : UsbSetting.Setting) (bs ns : List ℕ) (c fill : ℕ) (full : Bool) (out : List ℕ) {x : WriteResult} {left : List ℕ}
+    → Writes (UsbWriting.writeOf s bs ns c fill full out) c x left
+    → Numbers (UsbRefusal.WriteRefusal s bs ns c fill full (length out)) (UsbRefusal.WriteAccept s bs ns c fill full (length out)) out c
+    (x .number) (x .value) (x .counter) left
+xcp-usb-write s bs ns c fill full out call = Usb.writes-in-numbers s bs ns c fill full out (c-writes call)
+
+module _ (s : FlexRaySetting.Setting) (t : List ℕ) (c : Counter) (rows : List ℕ) where
+  abbrev FlexRayReadNumbers : (n v : ℕ) → Counter → List ℕ → Type 0
+  FlexRayReadNumbers = Numbers (FlexRayRefusal.ReadRefusal s t c (length rows)) (FlexRayRefusal.ReadAccept s t c (length rows)) rows c
+
+  pub flexray-lent-numbers : {u : Told} {d : Counter} {left : List ℕ} → Tells (FlexRayReading.readOf s t c rows) c u d left
+      → FlexRayReadNumbers (toldNumber u) (toldValue u) d left
+  flexray-lent-numbers call = Flexray.reads-in-numbers s t c rows (lent-numbers call) .numbers
+
+  pub xcp-flexray-read : {x : ReadResult} {left : List ℕ} → Reads (FlexRayReading.readOf s t c rows) c x left
+      → FlexRayReadNumbers (x .number) (x .value) (x .counter) left
+  xcp-flexray-read call = Flexray.reads-in-numbers s t c rows (c-reads call) .numbers
+
+pub xcp-flexray-write : (s : FlexRaySetting.Setting) (bs ns : List ℕ) (c fill : ℕ) (out : List ℕ) {x : WriteResult} {left : List ℕ}
+    → Writes (FlexRayWriting.writeOf s bs ns c fill out) c x left
+    → Numbers (FlexRayRefusal.WriteRefusal s bs ns c fill (length out)) (FlexRayRefusal.WriteAccept s bs ns c fill (length out)) out c
+    (x .number) (x .value) (x .counter) left
+xcp-flexray-write s bs ns c fill out call = Flexray.writes-in-numbers s bs ns c fill out (c-writes call)
+
+-- xcp_part_check; xcp_kind has the contract of packet::kind
+module _ (t : List ℕ) (p n : ℕ) {x : CheckResult} (call : x ≡ checkResult (checkOf t p n)) where
+  pub xcp-part-refused : length t < p + n → (x .number ≡ 5) × (x .place ≡ p)
+  xcp-part-refused h = let (number, place, empty) = PartLaws.part-outside t p n h in (rw call number, rw call place)
+
+  pub xcp-part-inside : p + n ≤ length t → (x .number ≡ 0) × (x .place ≡ 0)
+  xcp-part-inside h = rw (call, le-leb (p + n) (length t) h) (refl, refl)
+
 ---- The examples, and that a contract determines what its function answers ---------------------------------------------------------
 
 -- the starred examples, and the others: what is given is what document 01 says, in one table
 pub starred : map (λ x. x .gives) Starred.examples ≡ map (λ x. x .is) Starred.examples
 starred = Starred.starred
 
--- any two results that a contract allows are equal; OneResult has the other public functions
-pub usb-read-one : (s : UsbSetting.Setting) (t : List ℕ) (c : Counter) (rows : List ℕ) → One.Both (Usb.Reads s t c rows)
-usb-read-one = One.usb-read
-
-pub usb-write-one : (s : UsbSetting.Setting) (bs ns : List ℕ) (c fill : ℕ) (full : Bool) (out : List ℕ) → One.Both (Usb.Writes s bs ns c fill full out)
-usb-write-one = One.usb-write
-
-pub flexray-read-one : (s : FlexRaySetting.Setting) (t : List ℕ) (c : Counter) (rows : List ℕ) → One.Both (Flexray.Reads s t c rows)
-flexray-read-one = One.flexray-read
-
-pub flexray-write-one : (s : FlexRaySetting.Setting) (bs ns : List ℕ) (c fill : ℕ) (out : List ℕ) → One.Both (Flexray.Writes s bs ns c fill out)
-flexray-write-one = One.flexray-write
+-- any two results that a contract allows are equal; OneResult says it of each function's own contract
+pub one-result : {E : Type 0} {a : Answer E} {r u : E} {left past : List ℕ} → Gives a r left → Gives a u past → (r ≡ u) × (left ≡ past)
+one-result = AnswerLaws.one-result

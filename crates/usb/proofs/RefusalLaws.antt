@@ -15,7 +15,7 @@ use Rattle.packet.specs.Row.{table, behind}
 use Rattle.packet.specs.Answer.{readNumber, readState}
 use Rattle.packet.proofs.CounterLaws.{exceeds-known, valid-without, not-valid}
 use Rattle.packet.proofs.RowLaws.{length-table, state-unread, state-unaltered}
-use Rattle.packet.proofs.ReaderLaws.{Unread, refused-anyway, read-keeps, exactly-unread, exactly-accepted, rows-front, same-rows, same-state}
+use Rattle.packet.proofs.ReaderLaws.{Alike, Unread, refused-anyway, read-keeps, exactly-unread, exactly-accepted, rows-front, same-rows, same-state}
 use Rattle.usb.specs.declared.Setting.{Setting}
 use Rattle.usb.specs.Setting.{W, sound}
 use Rattle.usb.specs.Layout.{Transfer}
@@ -89,7 +89,7 @@ module _ (s : Setting) (t : List ℕ) (c : Counter) (rows : List ℕ) where
 
 -- the state is neither read nor altered
 module _ (s : Setting) (t : List ℕ) (none : W s ≡ 0) (rows : List ℕ) where
-  pub counter-unread : (b c : Counter) → readOf s t b rows .lent ≡ readOf s t c rows .lent
+  pub counter-unread : (b c : Counter) → Alike (readOf s t b rows) (readOf s t c rows)
   unfolding readOf
   counter-unread b c =
       rw (none, valid-without b, valid-without c)

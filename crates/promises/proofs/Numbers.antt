@@ -1,0 +1,195 @@
+-- What is promised of a call whose caller sees document 01's numbers: one from C, or one that lends the state. The answer behind the numbers keeps what
+-- Call promises, and so do they.
+use Prim.Native.Nat.{ℕ, _*_, _<_, _≤_}
+use native.Mathlib.Omega.{arith}
+use mathlib.Core.Path.{_≡_, refl, sym, ap, _∙_}
+use mathlib.Core.Logic.{_↔_, _⊎_, inl, inr}
+use mathlib.Core.List.{List}
+use lib.ListN.{length}
+use Rattle.packet.specs.declared.Counter.{Counter}
+use Rattle.packet.specs.declared.Reading.{Reading}
+use Rattle.packet.specs.declared.Reading.the-variants as R
+use Rattle.packet.specs.declared.Writing.{Writing}
+use Rattle.packet.specs.declared.Writing.the-variants as W
+use Rattle.packet.specs.Message.{Msg}
+use Rattle.packet.specs.Answer.{Answer, Gives, Accepted, readNumber, readValue, readState, writeNumber, writeValue, writeCounter}
+use Rattle.lent.specs.declared.Told.{Told}
+use Rattle.lent.specs.Told.{toldOf, toldNumber, toldValue, Tells}
+use Rattle.plumagemud.specs.declared.ReadResult.{ReadResult}
+use Rattle.plumagemud.specs.declared.WriteResult.{WriteResult}
+use Rattle.plumagemud.specs.Result.{Reads, Writes}
+use Rattle.promises.proofs.Call.{Answers, Given, Read}
+
+-- How an answer is told in document 01's numbers: its number, 0 where nothing is refused; its value, which is a count or a refusal's place; and the state
+-- or counter that is left of the one given
+pub record Telling {E C : Type 0} (refuse : ℕ → ℕ → E) (accept : ℕ → C → E) : Type 0 where
+  pub number : E → ℕ
+  pub value : E → ℕ
+  pub counter : C → E → C
+  pub of-refusal : (n p : ℕ) (c : C) → (number (refuse n p) ≡ n) × (value (refuse n p) ≡ p) × (counter c (refuse n p) ≡ c)
+  pub of-acceptance : (k : ℕ) (d c : C) → (number (accept k d) ≡ 0) × (value (accept k d) ≡ k) × (counter c (accept k d) ≡ d)
+  pub either : (r : E) → ((n : ℕ) × (p : ℕ) × (r ≡ refuse n p)) ⊎ ((k : ℕ) × (d : C) × (r ≡ accept k d))
+
+abbrev either-read : (r : Reading) → ((n : ℕ) × (p : ℕ) × (r ≡ R.Refused n p)) ⊎ ((k : ℕ) × (d : Counter) × (r ≡ R.Rows k d))
+either-read (R.Rows k d) = inr (k, d, refl)
+either-read (R.Refused n p) = inl (n, p, refl)
+
+abbrev pub reading : Telling R.Refused R.Rows
+reading = record {
+  number = readNumber;
+  value = readValue;
+  counter = readState;
+  of-refusal = λ n p c. (refl, refl, refl);
+  of-acceptance = λ k d c. (refl, refl, refl);
+  either = either-read;
+}
+
+abbrev either-write : (r : Writing) → ((n : ℕ) × (p : ℕ) × (r ≡ W.Refused n p)) ⊎ ((k : ℕ) × (d : ℕ) × (r ≡ W.Bytes k d))
+either-write (W.Bytes k d) = inr (k, d, refl)
+either-write (W.Refused n p) = inl (n, p, refl)
+
+abbrev pub writing : Telling W.Refused W.Bytes
+writing = record {
+  number = writeNumber;
+  value = writeValue;
+  counter = writeCounter;
+  of-refusal = λ n p c. (refl, refl, refl);
+  of-acceptance = λ k d c. (refl, refl, refl);
+  either = either-write;
+}
+
+-- what a contract in numbers says of a call with the state or counter c: it tells number n and value v, leaves d of c, and what was lent at `left`
+pub record InNumbers {E C : Type 0} {refuse : ℕ → ℕ → E} {accept : ℕ → C → E} (T : Telling refuse accept) (a : Answer E) (c : C)
+    (n v : ℕ) (d : C) (left : List ℕ) : Type 0 where
+  pub number : n ≡ T .number (a .answer)
+  pub value : v ≡ T .value (a .answer)
+  pub counter : d ≡ T .counter c (a .answer)
+  pub lent : left ≡ a .lent
+
+-- What is promised of it: the same as of a call that answers
+pub record Numbers {C : Type 0} (Refusal : ℕ → ℕ → Type 0) (Accept : ℕ → C → Type 0) (lent : List ℕ)
+    (c : C) (n v : ℕ) (d : C) (left : List ℕ) : Type 0 where
+  -- number m and value p are told exactly when the table gives m at p
+  pub refused : (m p : ℕ) → 0 < m → ((n ≡ m) × (v ≡ p)) ↔ Refusal m p
+  -- a refusal has a number up to 8, and changes nothing of what was lent, the state or counter included
+  pub refusal : 0 < n → (n ≤ 8) × (left ≡ lent) × (d ≡ c)
+  -- number 0 is told, with value k and with e left, exactly when nothing is refused
+  pub accepted : (k : ℕ) (e : C) → ((n ≡ 0) × (v ≡ k) × (d ≡ e)) ↔ Accept k e
+
+module _ {E C : Type 0} {refuse : ℕ → ℕ → E} {accept : ℕ → C → E} {T : Telling refuse accept}
+    {a : Answer E} {c : C} {n v : ℕ} {d : C} {left : List ℕ} (g : InNumbers T a c n v d left) where
+  -- the answer behind the numbers
+  pub behind-numbers : Gives a (a .answer) left
+  behind-numbers = record { answer = refl; lent = g .lent }
+
+  of-refusal : {m p : ℕ} → a .answer ≡ refuse m p → (n ≡ m) × (v ≡ p) × (d ≡ c)
+  of-refusal {m} {p} e =
+      let (x, y, z) = T .of-refusal m p c in
+      (g .number ∙ ap (T .number) e ∙ x, g .value ∙ ap (T .value) e ∙ y, g .counter ∙ ap (T .counter c) e ∙ z)
+
+  pub of-acceptance : {k : ℕ} {e : C} → a .answer ≡ accept k e → (n ≡ 0) × (v ≡ k) × (d ≡ e)
+  of-acceptance {k} {e} x =
+      let (i, y, z) = T .of-acceptance k e c in
+      (g .number ∙ ap (T .number) x ∙ i, g .value ∙ ap (T .value) x ∙ y, g .counter ∙ ap (T .counter c) x ∙ z)
+
+  module _ {Refusal : ℕ → ℕ → Type 0} {Accept : ℕ → C → Type 0} {lent : List ℕ}
+      (h : Answers refuse accept Refusal Accept lent (a .answer) left) where
+    abbrev Either : Type 0
+    Either = ((m : ℕ) × (p : ℕ) × (a .answer ≡ refuse m p)) ⊎ ((k : ℕ) × (e : C) × (a .answer ≡ accept k e))
+
+    pub numbers-promised : Numbers Refusal Accept lent c n v d left
+    numbers-promised =
+        record {
+          refused = λ m p l. (λ x. h .refused m p .0 (refuses m p l x (T .either (a .answer))), λ y. told (of-refusal (h .refused m p .1 y)));
+          refusal = unchanged (T .either (a .answer));
+          accepted = λ k e. (λ x. h .accepted k e .0 (accepts k e x (T .either (a .answer))), λ y. of-acceptance (h .accepted k e .1 y));
+        }
+      where
+        told : {m p : ℕ} → (n ≡ m) × (v ≡ p) × (d ≡ c) → (n ≡ m) × (v ≡ p)
+        told x = (x .0, x .1)
+
+        refuses : (m p : ℕ) → 0 < m → (n ≡ m) × (v ≡ p) → Either → a .answer ≡ refuse m p
+        refuses m p l x (inl (i, q, e)) =
+            let (y, z, o) = of-refusal e in
+            let number : i ≡ m = sym y ∙ x .0 in
+            let place : q ≡ p = sym z ∙ x .1 in
+            rw (← number, ← place) e
+        refuses m p l x (inr (k, e, y)) = absurd (omega (arith, of-acceptance y .0, x .0))
+
+        unchanged : Either → 0 < n → (n ≤ 8) × (left ≡ lent) × (d ≡ c)
+        unchanged (inl (i, q, e)) l =
+            let (y, z, o) = of-refusal e in
+            let (least, most, same) = h .refusal i q e in
+            (omega arith, same, o)
+        unchanged (inr (k, e, y)) l = absurd (omega (arith, of-acceptance y .0))
+
+        accepts : (k : ℕ) (e : C) → (n ≡ 0) × (v ≡ k) × (d ≡ e) → Either → a .answer ≡ accept k e
+        accepts k e x (inl (i, q, y)) = absurd (omega (arith, of-refusal y .0, h .refusal i q y .0, x .0))
+        accepts k e x (inr (i, f, y)) =
+            let (o, z, w) = of-acceptance y in
+            let count : i ≡ k = sym z ∙ x .1 in
+            let counter : f ≡ e = sym w ∙ x .2 in
+            rw (← count, ← counter) y
+
+---- Readers --------------------------------------------------------------------------------------------------------------------
+
+-- a read gives the messages ms too, where it is accepted
+pub record ReadNumbers (Refusal : ℕ → ℕ → Type 0) (Fine : Type 0) (Whole : List Msg → Type 0)
+    (tab : List Msg → List ℕ) (state : List Msg → Counter) (t rows : List ℕ) (c : Counter) (n v : ℕ) (d : Counter) (left : List ℕ) : Type 0 where
+  pub numbers : Numbers Refusal (Accepted Fine Whole state (length rows)) rows c n v d left
+  pub gives : (ms : List Msg) → Fine → Whole ms → 5 * length ms ≤ length rows
+      → (n ≡ 0) × (v ≡ length ms) × (d ≡ state ms) × Given Whole tab t rows left ms
+
+pub read-numbers : {Refusal : ℕ → ℕ → Type 0} {Fine : Type 0} {Whole : List Msg → Type 0} {tab : List Msg → List ℕ} {state : List Msg → Counter}
+    {t rows : List ℕ} {a : Answer Reading} {c : Counter} {n v : ℕ} {d : Counter} {left : List ℕ} → InNumbers reading a c n v d left
+    → Read Refusal Fine Whole tab state t rows (a .answer) left → ReadNumbers Refusal Fine Whole tab state t rows c n v d left
+read-numbers g h =
+    record {
+      numbers = numbers-promised g (h .answers);
+      gives = λ ms f x l.
+          let (told, given) = h .gives ms f x l in
+          let (y, z, o) = of-acceptance g told in
+          (y, z, o, given);
+    }
+
+---- Who sees numbers -----------------------------------------------------------------------------------------------------------
+
+told-number : (r : Reading) → toldNumber (toldOf r) ≡ readNumber r
+told-number (R.Rows k d) = refl
+told-number (R.Refused n p) = refl
+
+told-value : (r : Reading) → toldValue (toldOf r) ≡ readValue r
+told-value (R.Rows k d) = refl
+told-value (R.Refused n p) = refl
+
+-- a caller that lends the state
+pub lent-numbers : {a : Answer Reading} {c : Counter} {u : Told} {d : Counter} {left : List ℕ} → Tells a c u d left
+    → InNumbers reading a c (toldNumber u) (toldValue u) d left
+lent-numbers {a} g =
+    record {
+      number = ap toldNumber (g .told) ∙ told-number (a .answer);
+      value = ap toldValue (g .told) ∙ told-value (a .answer);
+      counter = g .state;
+      lent = g .lent;
+    }
+
+-- a caller from C
+pub c-reads : {a : Answer Reading} {c : Counter} {x : ReadResult} {left : List ℕ} → Reads a c x left
+    → InNumbers reading a c (x .number) (x .value) (x .counter) left
+c-reads g =
+    record {
+      number = ap (λ x. x .number) (g .result);
+      value = ap (λ x. x .value) (g .result);
+      counter = ap (λ x. x .counter) (g .result);
+      lent = g .rows;
+    }
+
+pub c-writes : {a : Answer Writing} {c : ℕ} {x : WriteResult} {left : List ℕ} → Writes a c x left
+    → InNumbers writing a c (x .number) (x .value) (x .counter) left
+c-writes g =
+    record {
+      number = ap (λ x. x .number) (g .result);
+      value = ap (λ x. x .value) (g .result);
+      counter = ap (λ x. x .counter) (g .result);
+      lent = g .out;
+    }
