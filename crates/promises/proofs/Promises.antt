@@ -59,13 +59,13 @@ pub answered : {E : Type 0} (a : Answer E) → (r : E) × (left : List ℕ) × G
 answered = Call.answered
 
 -- usb_reader::read
-module _ (s : UsbSetting.Setting) (t : List ℕ) (c : Counter) (rows : List ℕ) where
-  module _ {r : Reading} {left : List ℕ} (call : Usb.Reads s t c rows r left) (n p : ℕ) where
-    pub usb-read-refused : (r ≡ R.Refused n p) ↔ UsbRefusal.ReadRefusal s t c (length rows) n p
-    usb-read-refused = Usb.reads s t c rows call .answers .refused n p
+module _ (s : UsbSetting.Setting) (t : List ℕ) (c : Counter) (rows : List ℕ) {r : Reading} {left : List ℕ}
+    (call : Usb.Reads s t c rows r left) (n p : ℕ) where
+  pub usb-read-refused : (r ≡ R.Refused n p) ↔ UsbRefusal.ReadRefusal s t c (length rows) n p
+  usb-read-refused = Usb.reads s t c rows call .answers .refused n p
 
-    pub usb-read-unchanged : r ≡ R.Refused n p → (0 < n) × (n ≤ 8) × (left ≡ rows)
-    usb-read-unchanged = Usb.reads s t c rows call .answers .refusal n p
+  pub usb-read-unchanged : r ≡ R.Refused n p → (0 < n) × (n ≤ 8) × (left ≡ rows)
+  usb-read-unchanged = Usb.reads s t c rows call .answers .refusal n p
 
 -- usb_reader::read_lent: d is what the call leaves of the state c
 module _ (s : UsbSetting.Setting) (t : List ℕ) (c : Counter) (rows : List ℕ) {u : Told} {d : Counter} {left : List ℕ}
@@ -75,22 +75,22 @@ module _ (s : UsbSetting.Setting) (t : List ℕ) (c : Counter) (rows : List ℕ)
   usb-lent-unchanged = Usb.reads-in-numbers s t c rows (lent-numbers call) .numbers .refusal
 
 -- usb_writer::write
-module _ (s : UsbSetting.Setting) (bs ns : List ℕ) (c fill : ℕ) (full : Bool) (out : List ℕ) where
-  module _ {r : Writing} {left : List ℕ} (call : Usb.Writes s bs ns c fill full out r left) (n p : ℕ) where
-    pub usb-write-refused : (r ≡ W.Refused n p) ↔ UsbRefusal.WriteRefusal s bs ns c fill full (length out) n p
-    usb-write-refused = Usb.writes s bs ns c fill full out call .refused n p
+module _ (s : UsbSetting.Setting) (bs ns : List ℕ) (c fill : ℕ) (full : Bool) (out : List ℕ) {r : Writing} {left : List ℕ}
+    (call : Usb.Writes s bs ns c fill full out r left) (n p : ℕ) where
+  pub usb-write-refused : (r ≡ W.Refused n p) ↔ UsbRefusal.WriteRefusal s bs ns c fill full (length out) n p
+  usb-write-refused = Usb.writes s bs ns c fill full out call .refused n p
 
-    pub usb-write-unchanged : r ≡ W.Refused n p → (0 < n) × (n ≤ 8) × (left ≡ out)
-    usb-write-unchanged = Usb.writes s bs ns c fill full out call .refusal n p
+  pub usb-write-unchanged : r ≡ W.Refused n p → (0 < n) × (n ≤ 8) × (left ≡ out)
+  usb-write-unchanged = Usb.writes s bs ns c fill full out call .refusal n p
 
 -- flexray_reader::read
-module _ (s : FlexRaySetting.Setting) (t : List ℕ) (c : Counter) (rows : List ℕ) where
-  module _ {r : Reading} {left : List ℕ} (call : Flexray.Reads s t c rows r left) (n p : ℕ) where
-    pub flexray-read-refused : (r ≡ R.Refused n p) ↔ FlexRayRefusal.ReadRefusal s t c (length rows) n p
-    flexray-read-refused = Flexray.reads s t c rows call .answers .refused n p
+module _ (s : FlexRaySetting.Setting) (t : List ℕ) (c : Counter) (rows : List ℕ) {r : Reading} {left : List ℕ}
+    (call : Flexray.Reads s t c rows r left) (n p : ℕ) where
+  pub flexray-read-refused : (r ≡ R.Refused n p) ↔ FlexRayRefusal.ReadRefusal s t c (length rows) n p
+  flexray-read-refused = Flexray.reads s t c rows call .answers .refused n p
 
-    pub flexray-read-unchanged : r ≡ R.Refused n p → (0 < n) × (n ≤ 8) × (left ≡ rows)
-    flexray-read-unchanged = Flexray.reads s t c rows call .answers .refusal n p
+  pub flexray-read-unchanged : r ≡ R.Refused n p → (0 < n) × (n ≤ 8) × (left ≡ rows)
+  flexray-read-unchanged = Flexray.reads s t c rows call .answers .refusal n p
 
 -- flexray_reader::read_lent: d is what the call leaves of the state c
 module _ (s : FlexRaySetting.Setting) (t : List ℕ) (c : Counter) (rows : List ℕ) {u : Told} {d : Counter} {left : List ℕ}
@@ -100,13 +100,13 @@ module _ (s : FlexRaySetting.Setting) (t : List ℕ) (c : Counter) (rows : List 
   flexray-lent-unchanged = Flexray.reads-in-numbers s t c rows (lent-numbers call) .numbers .refusal
 
 -- flexray_writer::write
-module _ (s : FlexRaySetting.Setting) (bs ns : List ℕ) (c fill : ℕ) (out : List ℕ) where
-  module _ {r : Writing} {left : List ℕ} (call : Flexray.Writes s bs ns c fill out r left) (n p : ℕ) where
-    pub flexray-write-refused : (r ≡ W.Refused n p) ↔ FlexRayRefusal.WriteRefusal s bs ns c fill (length out) n p
-    flexray-write-refused = Flexray.writes s bs ns c fill out call .refused n p
+module _ (s : FlexRaySetting.Setting) (bs ns : List ℕ) (c fill : ℕ) (out : List ℕ) {r : Writing} {left : List ℕ}
+    (call : Flexray.Writes s bs ns c fill out r left) (n p : ℕ) where
+  pub flexray-write-refused : (r ≡ W.Refused n p) ↔ FlexRayRefusal.WriteRefusal s bs ns c fill (length out) n p
+  flexray-write-refused = Flexray.writes s bs ns c fill out call .refused n p
 
-    pub flexray-write-unchanged : r ≡ W.Refused n p → (0 < n) × (n ≤ 8) × (left ≡ out)
-    flexray-write-unchanged = Flexray.writes s bs ns c fill out call .refusal n p
+  pub flexray-write-unchanged : r ≡ W.Refused n p → (0 < n) × (n ≤ 8) × (left ≡ out)
+  flexray-write-unchanged = Flexray.writes s bs ns c fill out call .refusal n p
 
 -- packet::part_check and packet::part: a part that runs past the input is refused with 5 at its place, and is empty; any other shows exactly its bytes
 module _ (t : List ℕ) (p n : ℕ) {r : Checked} (check : r ≡ checkOf t p n) {shown : List ℕ} (part : shown ≡ partOf t p n) where
