@@ -1,72 +1,10 @@
-//! Cases from random numbers. Each aims at an answer, so that every refusal comes often; the rule decides what it is.
+//! Cases from random numbers. Each aims at acceptance, at a reason for refusal, or at two; the rule decides what is answered.
 
+use crate::call::{Call, NAMES, PAIRED};
 use crate::random::Random;
+use crate::reasons::{self, Fault, Why, REASONS};
 use crate::rule::*;
-
-/// A call of one of the functions with its inputs. `table` and `room` are the lengths of what is lent.
-#[derive(Clone, Debug)]
-pub enum Call {
-    UsbRead { s: Usb, t: Vec<u8>, c: Counter, table: usize },
-    UsbWrite { s: Usb, packets: Vec<u8>, lengths: Vec<u32>, first: u32, fill: u8, full: bool, room: usize },
-    FlexRayRead { s: FlexRay, t: Vec<u8>, c: Counter, table: usize },
-    FlexRayWrite { s: FlexRay, packets: Vec<u8>, lengths: Vec<u32>, first: u32, fill: u8, room: usize },
-    Part { t: Vec<u8>, place: u32, length: u32 },
-    Kind { direction: u32, packet: Vec<u8> },
-}
-
-#[derive(Clone, Debug, PartialEq)]
-pub enum Answer {
-    Read(Read),
-    Write(Write),
-    Part(Option<(u32, u64)>, Vec<u8>),
-    Kind(u32),
-}
-
-pub const NAMES: [&str; 6] = ["usb_read", "usb_write", "flexray_read", "flexray_write", "part", "kind"];
-
-impl Call {
-    pub fn function(&self) -> usize {
-        match self {
-            Call::UsbRead { .. } => 0,
-            Call::UsbWrite { .. } => 1,
-            Call::FlexRayRead { .. } => 2,
-            Call::FlexRayWrite { .. } => 3,
-            Call::Part { .. } => 4,
-            Call::Kind { .. } => 5,
-        }
-    }
-
-    pub fn answer(&self) -> Answer {
-        match self {
-            Call::UsbRead { s, t, c, table } => Answer::Read(usb_read(s, t, *c, *table)),
-            Call::UsbWrite { s, packets, lengths, first, fill, full, room } => {
-                Answer::Write(usb_write(s, packets, lengths, *first, *fill, *full, *room))
-            }
-            Call::FlexRayRead { s, t, c, table } => Answer::Read(flexray_read(s, t, *c, *table)),
-            Call::FlexRayWrite { s, packets, lengths, first, fill, room } => {
-                Answer::Write(flexray_write(s, packets, lengths, *first, *fill, *room))
-            }
-            Call::Part { t, place, length } => match part(t.len(), *place as u64, *length as u64) {
-                Some(refused) => Answer::Part(Some(refused), Vec::new()),
-                None => Answer::Part(None, t[*place as usize..][..*length as usize].to_vec()),
-            },
-            Call::Kind { direction, packet } => Answer::Kind(kind(*direction, packet[0])),
-        }
-    }
-}
-
-impl Answer {
-    /// 0 for accepted, else the refusal's number.
-    pub fn number(&self) -> u32 {
-        match self {
-            Answer::Read(Read::Refused(n, _)) | Answer::Write(Write::Refused(n, _)) | Answer::Part(Some((n, _)), _) => *n,
-            _ => 0,
-        }
-    }
-}
-
-/// The answers each function can give.
-pub const AIMS: [&[u32]; 6] = [&[0, 1, 2, 3, 4, 5, 6], &[0, 1, 2, 3, 4], &[0, 1, 4, 5, 6, 7, 8], &[0, 1, 2, 3, 4], &[0, 5], &[0]];
+use Why::*;
 
 /// How large inputs may get: what is lent and joined packets.
 #[derive(Clone, Copy)]
@@ -77,20 +15,73 @@ pub struct Bounds {
     pub lengths: usize,
 }
 
-/// One case. It aims at an answer, in most tries with no other fault.
-pub fn case(r: &mut Random, bounds: &Bounds) -> Call {
+/// How often each pair of reasons is made on purpose.
+const TIMES: usize = 4;
+
+/// All cases: each pair of reasons on purpose, the longest output, random ones, and for both readers with the state lent each reason so
+/// many times. `take` says whether it takes a case; one that it does not take is made again.
+pub fn each(r: &mut Random, b: &Bounds, random: usize, lent: usize, take: &mut dyn FnMut(&Call) -> bool) {
+    for function in 0..PAIRED {
+        for pair in reasons::pairs(function) {
+            for _ in 0..TIMES {
+                while !take(&purposely(r, function, &pair, b)) {}
+            }
+        }
+    }
+    longest().iter().for_each(|call| assert!(take(call)));
+    for _ in 0..random {
+        while !take(&case(r, b)) {}
+    }
+    for function in [0, 2] {
+        let alone = REASONS[function].iter().map(std::slice::from_ref);
+        for aim in alone.chain([&[][..]]) {
+            for _ in 0..lent {
+                while !take(&Call::Lent(Box::new(purposely(r, function, aim, b)))) {}
+            }
+        }
+    }
+}
+
+/// A case in which the first of the reasons is answered, and the second holds too.
+fn purposely(r: &mut Random, function: usize, aim: &[Why], b: &Bounds) -> Call {
+    for _ in 0..100_000 {
+        let call = make(r, function, aim, b);
+        if within(&call, b) && hit(&call.faults(), aim) {
+            return call;
+        }
+    }
+    panic!("{} never has {aim:?}", NAMES[function])
+}
+
+fn hit(faults: &[Fault], aim: &[Why]) -> bool {
+    match *aim {
+        [a, b] => reasons::met(faults).contains(&[a, b]),
+        [a] => reasons::answered(faults).iter().any(|fault| fault.0 == a),
+        _ => faults.is_empty(),
+    }
+}
+
+/// A random case. What it aims at holds in most; another reason may hide it.
+fn case(r: &mut Random, b: &Bounds) -> Call {
     let function = r.pick(&[0, 0, 0, 0, 0, 0, 0, 1, 1, 1, 1, 1, 2, 2, 2, 2, 2, 3, 3, 3, 3, 4]);
     let function = if function == 4 && r.one_in(2) { 5 } else { function };
-    let aims = AIMS[function];
-    let aim = if r.one_in(3) { 0 } else { r.pick(aims) };
-    let mut call = make(r, function, aim, bounds);
+    let aim = match r.below(7) {
+        0..=2 if function != 5 => vec![r.pick(REASONS[function])],
+        3 if function < PAIRED => r.pick(&reasons::pairs(function)).to_vec(),
+        _ => Vec::new(),
+    };
+    let holds = |call: &Call| {
+        let faults = call.faults();
+        faults.is_empty() == aim.is_empty() && aim.iter().all(|why| faults.iter().any(|fault| fault.0 == *why))
+    };
+    let mut call = make(r, function, &aim, b);
     for _ in 0..10 {
-        if call.answer().number() == aim && within(&call, bounds) {
+        if within(&call, b) && holds(&call) {
             break;
         }
-        call = make(r, function, aim, bounds);
+        call = make(r, function, &aim, b);
     }
-    if within(&call, bounds) { call } else { case(r, bounds) }
+    if within(&call, b) { call } else { case(r, b) }
 }
 
 fn within(call: &Call, b: &Bounds) -> bool {
@@ -100,11 +91,11 @@ fn within(call: &Call, b: &Bounds) -> bool {
             packets.len() <= b.packets && lengths.len() <= b.lengths && *room <= b.room
         }
         Call::Part { t, .. } => t.len() <= b.room,
-        Call::Kind { .. } => true,
+        _ => true,
     }
 }
 
-fn make(r: &mut Random, function: usize, aim: u32, b: &Bounds) -> Call {
+fn make(r: &mut Random, function: usize, aim: &[Why], b: &Bounds) -> Call {
     match function {
         0 => usb_reading(r, aim, b),
         1 => usb_writing(r, aim, b),
@@ -113,6 +104,27 @@ fn make(r: &mut Random, function: usize, aim: u32, b: &Bounds) -> Call {
         4 => parting(r, aim),
         _ => Call::Kind { direction: r.below(2) as u32, packet: bytes(r, 3) },
     }
+}
+
+/// Transfers written at and just past 262,144 bytes, and with one byte of room too little.
+fn longest() -> Vec<Call> {
+    let s = Usb { header: 0, packing: SINGLE, align: 1, size: 1_000, longest: 255, direction: 0 };
+    let write = |s: Usb, count: usize, last: usize, full: bool, room: usize| {
+        let mut lengths = vec![1; count];
+        lengths.push(last as u32);
+        Call::UsbWrite { s, packets: vec![0xFC; count + last], lengths, first: 0, fill: 0xEE, full, room }
+    };
+    let most = LONGEST_TRANSFER;
+    vec![
+        write(s, 262, 143, false, most),
+        write(s, 262, 143, false, most + 256),
+        write(s, 262, 143, false, most - 1),
+        write(s, 262, 144, false, most + 1),
+        write(s, 262, 144, false, most + 256),
+        write(Usb { size: 1_024, ..s }, 255, 7, true, most),
+        write(Usb { size: 1_024, ..s }, 255, 7, true, most - 1),
+        write(Usb { size: 1_024, ..s }, 256, 1, false, most + 256),
+    ]
 }
 
 /// Free bytes: each at random, or one value throughout.
@@ -187,9 +199,31 @@ fn usb_setting(r: &mut Random) -> Usb {
     Usb { header, packing: r.below(3) as u32, align: r.pick(&[1, 2, 4, 8]), size, longest, direction: r.below(2) as u32 }
 }
 
-fn usb_broken(r: &mut Random, s: &mut Usb) {
+/// A setting under which the reasons can hold.
+fn usb_suited(r: &mut Random, aim: &[Why]) -> Usb {
+    let mut s = usb_setting(r);
+    if aim.contains(&Ctr) {
+        s.header = r.pick(&[1, 4]);
+        s.longest = s.longest.min(if s.header == 1 { 255 } else { 65_535 });
+    }
+    if aim.contains(&Bare) {
+        s.packing = SINGLE;
+    }
+    if aim.contains(&Unfit) {
+        s.packing = r.pick(&[SINGLE, MULTIPLE]);
+    }
+    s
+}
+
+fn no_direction(r: &mut Random) -> u32 {
     let far = large(r);
-    match r.below(6) {
+    r.pick(&[2, 3, 255, 256, far])
+}
+
+/// Breaks a part of the setting; beside another reason often the direction, since that leaves the layout as it was.
+fn usb_broken(r: &mut Random, s: &mut Usb, aim: &[Why]) {
+    let far = large(r);
+    match r.below(if aim.len() > 1 { 10 } else { 6 }) {
         0 => s.header = r.pick(&[6, 7, 8, 255, 256, far]),
         1 => s.packing = r.pick(&[3, 4, 255, 256, far]),
         2 => s.align = r.pick(&[0, 3, 5, 6, 7, 9, 10, 12, 16, 32, 64, 256, far]),
@@ -201,7 +235,7 @@ fn usb_broken(r: &mut Random, s: &mut Usb) {
             let top = if s.header < 3 { 256 } else { 65_536 };
             s.longest = r.pick(&[0, 1, 7, 7, top, top, top + 1, far]);
         }
-        _ => s.direction = r.pick(&[2, 3, 255, 256, far]),
+        _ => s.direction = no_direction(r),
     }
 }
 
@@ -217,17 +251,30 @@ fn flexray_setting(r: &mut Random) -> FlexRay {
     FlexRay { node, direction: r.below(2) as u32, ceiling, header, align: r.pick(flexray_header(header).unwrap().3) }
 }
 
-fn flexray_broken(r: &mut Random, s: &mut FlexRay) {
+/// A setting whose header suits the reasons.
+fn flexray_suited(r: &mut Random, aim: &[Why]) -> FlexRay {
+    let mut s = flexray_setting(r);
+    let suits = |&n: &u32| {
+        let (_, ctr, len, _) = flexray_header(n).unwrap();
+        let with_len = aim.contains(&Past) || aim.contains(&Bare);
+        (ctr.is_some() || !aim.contains(&Ctr)) && (len.is_some() || !with_len) && (len.is_none() || !aim.contains(&Several))
+    };
+    let headers: Vec<u32> = (0..9).filter(suits).collect();
+    s.header = r.pick(&headers);
+    s.align = r.pick(flexray_header(s.header).unwrap().3);
+    s
+}
+
+fn flexray_broken(r: &mut Random, s: &mut FlexRay, aim: &[Why]) {
     let far = large(r);
-    match r.below(6) {
+    match r.below(if aim.len() > 1 { 10 } else { 6 }) {
         0 => s.node = r.pick(&[256, 257, 511, 512, far]),
-        1 => s.direction = r.pick(&[2, 3, 255, 256, far]),
-        2 => {
+        1 => {
             let odd = 2 * r.from(4, 126) + 1;
             s.ceiling = r.pick(&[0, 2, 4, 6, 7, 9, 253, 255, 256, 258, odd as u32, odd as u32, far]);
         }
-        3 => s.header = r.pick(&[9, 10, 16, 255, 256, far]),
-        _ => {
+        2 => s.header = r.pick(&[9, 10, 16, 255, 256, far]),
+        3 | 4 => {
             let far = r.pick(&[0, 3, 8, 16, 256, far]);
             let aligns = flexray_header(s.header).unwrap().3;
             s.align = r.pick(&[1, 2, 4, far]);
@@ -235,6 +282,7 @@ fn flexray_broken(r: &mut Random, s: &mut FlexRay) {
                 s.align = 8;
             }
         }
+        _ => s.direction = no_direction(r),
     }
 }
 
@@ -253,9 +301,9 @@ fn too_high(r: &mut Random, n: u32) -> u32 {
 }
 
 /// A state; `first` is the counter that the input starts with. A state that needs no bound may hold any number.
-fn state(r: &mut Random, counters: Option<u32>, first: u32, broken: bool) -> Counter {
+fn state(r: &mut Random, counters: Option<u32>, first: u32, aim: &[Why]) -> Counter {
     let n = counters.unwrap_or(256);
-    if broken && counters.is_some() {
+    if counters.is_some() && (aim.contains(&Ctr) || r.one_in(60)) {
         return Counter { known: true, expected: too_high(r, n) };
     }
     let known = !r.one_in(3);
@@ -268,21 +316,23 @@ fn state(r: &mut Random, counters: Option<u32>, first: u32, broken: bool) -> Cou
     Counter { known, expected: if free && r.one_in(3) { too_high(r, n) } else { expected } }
 }
 
-/// The lent length for an answer that needs `need`: exact, more, or less if it is to be short.
-fn lent(r: &mut Random, need: usize, short: bool, most: usize) -> usize {
+/// The lent length for an answer that needs `need`: exact, more, or less if it is to be short; at most `most`.
+fn lent(r: &mut Random, need: usize, aim: &[Why], most: usize) -> usize {
+    let short = aim.contains(&Room) || (!aim.is_empty() && r.one_in(5));
     if short && need > 0 {
-        return match r.below(3) {
+        let less = match r.below(3) {
             0 => need - 1,
             1 => need - 1 - r.below(need.min(5)),
             _ => r.below(need),
         };
+        return less.min(most);
     }
     let more = match r.below(4) {
         0 => 0,
         1 => r.from(1, 4),
         _ => r.from(0, 40),
     };
-    (need + more).min(most.max(need))
+    (need + more).min(most)
 }
 
 /// A sender's transfer and the places of its headers: random messages, rests and free bytes, all as the layout permits.
@@ -371,94 +421,86 @@ fn damage(r: &mut Random, t: &mut Vec<u8>) {
     }
 }
 
-fn usb_reading(r: &mut Random, aim: u32, b: &Bounds) -> Call {
-    let mut s = usb_setting(r);
-    if aim == 6 {
-        s.packing = SINGLE;
-    }
-    if aim == 3 {
+fn usb_reading(r: &mut Random, aim: &[Why], b: &Bounds) -> Call {
+    let mut s = usb_suited(r, aim);
+    if aim.contains(&Over) {
         s.longest = r.from(8, if s.header < 3 { 254 } else { 400 }) as u32;
     }
-    if aim == 1 && r.one_in(2) {
-        s.header = r.pick(&[1, 4]);
-    }
-    let (h, width, _) = usb_header(s.header).unwrap();
-    let x = s.longest as usize;
     let first = counter(r, usb_counters(&s).unwrap_or(256));
     let (mut t, headers) = sender(r, &s, first);
-    let at = if headers.is_empty() { 0 } else { r.pick(&headers) };
-    match aim {
-        0 if r.one_in(4) => damage(r, &mut t),
-        0 if r.one_in(60) => t = same(r, b),
-        1 if r.one_in(4) => damage(r, &mut t),
-        2 => {
-            let n = if r.one_in(3) { LONGEST_TRANSFER + 1 } else { r.from(LONGEST_TRANSFER + 1, b.room) };
-            t.truncate(n);
-            let free = Noise::One(r.byte());
-            let more = n - t.len();
-            add(r, &mut t, more, free);
-        }
-        3 => {
-            let over = if r.one_in(2) { x + 1 } else { r.from(x + 1, if width == 1 { 255 } else { 65_535 }) };
-            set_len(&mut t, at, width, over);
-            if r.one_in(4) {
-                damage(r, &mut t);
-            }
-        }
-        5 => match r.below(4) {
-            0 => {
-                let l = r.from(1, x);
-                set_len(&mut t, at, width, l);
-            }
-            1 => {
-                let l = x.min(t.len().saturating_sub(at + h) + 1 + r.below(4));
-                set_len(&mut t, at, width, l);
-            }
-            2 => {
-                let a = s.align as usize;
-                t.truncate(t.len() - r.below(t.len().min(2 * a) + 1));
-            }
-            _ => damage(r, &mut t),
-        },
-        6 => match r.below(4) {
-            0 => set_len(&mut t, at, width, 0),
-            1 => {
-                let left = up(t.len(), s.size as usize) - t.len();
-                add(r, &mut t, left, Noise::Any);
-                let n = r.from(0, h + 1);
-                add(r, &mut t, n, Noise::Any);
-            }
-            2 => {
-                let left = up(t.len(), s.size as usize) - t.len();
-                add(r, &mut t, left, Noise::Any);
-                t.resize(t.len() + width, 0);
-                let n = r.from(0, 4);
-                add(r, &mut t, n, Noise::Any);
-            }
-            _ => damage(r, &mut t),
-        },
-        7 => damage(r, &mut t),
-        _ => {}
+    for &why in aim {
+        let at = if headers.is_empty() { 0 } else { r.pick(&headers) };
+        usb_fault(r, &s, &mut t, at, why, b);
+    }
+    if aim.is_empty() && r.one_in(60) {
+        t = same(r, b);
+    }
+    if r.one_in(5) {
+        damage(r, &mut t);
     }
     if r.one_in(40) {
         t.clear();
         let n = r.below(60);
         add(r, &mut t, n, Noise::Any);
     }
-    // Faults that other answers come before.
-    let broken = (aim == 1 && r.one_in(2)) || r.one_in(60);
-    let wrong = aim == 1 && !(broken && usb_counters(&s).is_some());
-    let c = state(r, usb_counters(&s), first, broken);
-    let need = match usb_read(&s, &t, c, usize::MAX) {
-        Read::Rows(rows, _) => 5 * rows.len(),
-        _ => 5 * headers.len(),
-    };
-    let short = aim == 4 || (aim != 0 && r.one_in(5));
-    let table = lent(r, need, short, b.numbers);
-    if wrong || r.one_in(80) {
-        usb_broken(r, &mut s);
+    let c = state(r, usb_counters(&s), first, aim);
+    let table = lent(r, 5 * reasons::usb_layout(&s, &t).1, aim, b.numbers);
+    if aim.contains(&Setting) || r.one_in(80) {
+        usb_broken(r, &mut s, aim);
     }
-    Call::UsbRead { s, t, c, table: table.min(b.numbers) }
+    Call::UsbRead { s, t, c, table }
+}
+
+/// Makes a reason hold of a transfer that has a header `at` a place.
+fn usb_fault(r: &mut Random, s: &Usb, t: &mut Vec<u8>, at: usize, why: Why, b: &Bounds) {
+    let (_, width, _) = usb_header(s.header).unwrap();
+    let x = s.longest as usize;
+    match why {
+        Long => {
+            let n = if r.one_in(3) { LONGEST_TRANSFER + 1 } else { r.from(LONGEST_TRANSFER + 1, b.room) };
+            let any = r.byte();
+            t.resize(n, r.pick(&[0, 0, 1, any]));
+        }
+        Over => {
+            let over = if r.one_in(2) { x + 1 } else { r.from(x + 1, if width == 1 { 255 } else { 65_535 }) };
+            set_len(t, at, width, over);
+        }
+        Past => usb_past(r, s, t, at),
+        Bare => usb_bare(r, s, t, at),
+        _ => {}
+    }
+}
+
+/// Makes a message run past its end, by its LEN or by a cut.
+fn usb_past(r: &mut Random, s: &Usb, t: &mut Vec<u8>, at: usize) {
+    let (h, width, _) = usb_header(s.header).unwrap();
+    let (m, a, x) = (s.size as usize, s.align as usize, s.longest as usize);
+    match r.below(4) {
+        0 => t.truncate(t.len() - r.below(t.len().min(2 * a) + 1)),
+        1 => {
+            let l = r.from(1, x);
+            set_len(t, at, width, l);
+        }
+        _ => {
+            let end = if s.packing == STREAMING { t.len() } else { t.len().min(at / m * m + m) };
+            let l = x.min(end.saturating_sub(at + h) + 1 + r.below(4));
+            set_len(t, at, width, l);
+        }
+    }
+}
+
+/// Leaves a single data packet without a message: one that is there, or one more.
+fn usb_bare(r: &mut Random, s: &Usb, t: &mut Vec<u8>, at: usize) {
+    let (h, width, _) = usb_header(s.header).unwrap();
+    if r.one_in(3) {
+        return set_len(t, at, width, 0);
+    }
+    let left = up(t.len(), s.size as usize) - t.len();
+    add(r, t, left, Noise::Any);
+    let zeros = r.pick(&[0, width]);
+    t.resize(t.len() + zeros, 0);
+    let n = r.from(0, h + 1);
+    add(r, t, n, Noise::Any);
 }
 
 /// One byte throughout, short or as long as a transfer may get.
@@ -510,67 +552,76 @@ fn relength(packets: &mut Vec<u8>, lengths: &mut [u32], i: usize, l: usize) {
     lengths[i] = l as u32;
 }
 
-fn usb_writing(r: &mut Random, aim: u32, b: &Bounds) -> Call {
-    let mut s = usb_setting(r);
-    if aim == 1 && r.one_in(2) {
-        s.header = r.pick(&[1, 4]);
+/// Too many lengths, by one or more.
+fn too_many(r: &mut Random, b: &Bounds) -> usize {
+    if r.one_in(2) { MOST_LENGTHS + 1 } else { r.from(MOST_LENGTHS + 1, b.lengths) }
+}
+
+fn fill_byte(r: &mut Random) -> u8 {
+    let any = r.byte();
+    r.pick(&[0, 0xFF, 0xEE, 0xB7, any, any])
+}
+
+/// Makes the reasons hold that a list by itself can have. `wrong` gives a length for a reason, from the lengths before it.
+fn spoil(r: &mut Random, aim: &[Why], list: &mut (Vec<u8>, Vec<u32>), wrong: impl Fn(&mut Random, Why, &[u32]) -> Option<usize>) {
+    let (packets, lengths) = list;
+    let count = lengths.len();
+    for &why in aim.iter().filter(|_| count > 0) {
+        let i = if r.one_in(3) { count - 1 } else { r.below(count) };
+        if let Some(l) = wrong(r, why, &lengths[..i]) {
+            relength(packets, lengths, i, l);
+        }
     }
-    let far = (aim == 4 && r.one_in(8)) || (aim == 0 && r.one_in(60));
+    if aim.contains(&Sum) || r.one_in(60) {
+        unequal(r, packets, lengths);
+    }
+}
+
+fn usb_writing(r: &mut Random, aim: &[Why], b: &Bounds) -> Call {
+    let mut s = usb_suited(r, aim);
+    let far = aim.contains(&Far) || (aim.is_empty() && r.one_in(60));
     if far {
         far_setting(r, &mut s);
     }
-    let (h, _, _) = usb_header(s.header).unwrap();
+    let (h, ..) = usb_header(s.header).unwrap();
     let x = s.longest as usize;
     let most = if s.packing == STREAMING { x } else { x.min(s.size as usize - h) };
-    let n = r.pick(&[0, 1, 1, 2, 3, 5, 8]);
-    let n = if aim == 4 { n.max(1) } else { n };
-    let full = if far && aim == 4 { r.one_in(4) } else { r.one_in(2) };
-    let (mut packets, mut lengths) = if far { far_list(r, &s, h) } else { list(r, n, most) };
-    if aim == 0 && r.one_in(60) {
-        (packets, lengths) = list(r, MOST_LENGTHS, most);
-    }
-    match aim {
-        2 if r.one_in(5) => {
-            let n = if r.one_in(2) { MOST_LENGTHS + 1 } else { r.from(MOST_LENGTHS + 1, b.lengths) };
-            (packets, lengths) = list(r, n, most);
-            if r.one_in(4) {
-                unequal(r, &mut packets, &mut lengths);
-            }
-        }
-        2 => unequal(r, &mut packets, &mut lengths),
-        3 if !lengths.is_empty() => {
-            for _ in 0..r.from(1, 2) {
-                let i = r.below(lengths.len());
-                let more = most + r.from(2, 9);
-                let l = r.pick(&[0, 0, x + 1, most + 1, most + 1, more]);
-                relength(&mut packets, &mut lengths, i, l);
-            }
-        }
-        _ => {}
-    }
-    let counters = usb_counters(&s);
-    let high = counters.is_some() && ((aim == 1 && r.one_in(2)) || r.one_in(60));
-    let first = start(r, counters, high);
-    let any = r.byte();
-    let fill = r.pick(&[0, 0xFF, 0xEE, 0xB7, any, any]);
-    let need = match usb_write(&s, &packets, &lengths, first, fill, full, usize::MAX) {
-        Write::Bytes(out, _) => out.len(),
-        _ => 40,
-    };
-    let over = far && aim == 4;
-    let short = aim == 4 || (aim != 0 && r.one_in(5));
-    let room = if over { b.room } else { lent(r, need, short, b.room) };
-    if (aim == 1 && !high) || r.one_in(80) {
-        usb_broken(r, &mut s);
+    let mut all = usb_list(r, &s, aim, most, far, b);
+    spoil(r, aim, &mut all, |r, why, _| match why {
+        Zero => Some(0),
+        Over => Some(x + r.from(1, 2)),
+        Unfit => Some(most + r.pick(&[1, 1, 2, 5, 9])),
+        _ => None,
+    });
+    let (packets, lengths) = all;
+    let full = r.one_in(if far { 4 } else { 2 });
+    let first = start(r, usb_counters(&s), aim);
+    let fill = fill_byte(r);
+    let room = lent(r, reasons::usb_size(&s, &lengths, full), aim, b.room);
+    if aim.contains(&Setting) || r.one_in(80) {
+        usb_broken(r, &mut s, aim);
     }
     Call::UsbWrite { s, packets, lengths, first, fill, full, room }
 }
 
+/// A list of packets of at most `most` bytes, unless its count is to be wrong; `far`, its transfer is long.
+fn usb_list(r: &mut Random, s: &Usb, aim: &[Why], most: usize, far: bool, b: &Bounds) -> (Vec<u8>, Vec<u32>) {
+    if aim.contains(&Count) {
+        let n = too_many(r, b);
+        return list(r, n, most);
+    }
+    if far {
+        return far_list(r, s);
+    }
+    let n = r.pick(&[0, 1, 1, 2, 3, 5, 8]).max(aim.len());
+    let n = if aim.is_empty() && r.one_in(60) { MOST_LENGTHS } else { n };
+    list(r, n, most)
+}
 
 /// A first counter; without a counter it may be any number.
-fn start(r: &mut Random, counters: Option<u32>, high: bool) -> u32 {
+fn start(r: &mut Random, counters: Option<u32>, aim: &[Why]) -> u32 {
     match counters {
-        Some(n) if high => too_high(r, n),
+        Some(n) if aim.contains(&Ctr) || r.one_in(60) => too_high(r, n),
         Some(n) => counter(r, n),
         None if r.one_in(2) => too_high(r, 256),
         None => counter(r, 65_536),
@@ -585,7 +636,8 @@ fn far_setting(r: &mut Random, s: &mut Usb) {
 }
 
 /// Packets whose transfer ends near 262,144 bytes.
-fn far_list(r: &mut Random, s: &Usb, h: usize) -> (Vec<u8>, Vec<u32>) {
+fn far_list(r: &mut Random, s: &Usb) -> (Vec<u8>, Vec<u32>) {
+    let (h, ..) = usb_header(s.header).unwrap();
     let m = s.size as usize;
     let n = LONGEST_TRANSFER / m;
     let l = match s.packing {
@@ -602,7 +654,7 @@ fn far_list(r: &mut Random, s: &Usb, h: usize) -> (Vec<u8>, Vec<u32>) {
         MULTIPLE => n * (m / each),
         _ => LONGEST_TRANSFER / each,
     };
-    let count = (count + r.pick(&[0, 1, 1, 1, 2])).saturating_sub(r.pick(&[0, 0, 1, 1, 2]));
+    let count = (count + r.pick(&[0, 1, 1, 2, 3])).saturating_sub(r.pick(&[0, 0, 1, 1, 2]));
     (vec![r.byte(); count * l], vec![l as u32; count])
 }
 
@@ -651,99 +703,117 @@ fn frame(r: &mut Random, s: &FlexRay, ctr: u32) -> (Vec<u8>, Vec<usize>) {
     (t, lens)
 }
 
-fn flexray_reading(r: &mut Random, aim: u32, b: &Bounds) -> Call {
-    let mut s = flexray_setting(r);
-    if aim == 1 && r.one_in(2) {
-        s.header = r.pick(&[3, 4, 7, 8]);
-        s.align = r.pick(flexray_header(s.header).unwrap().3);
-    }
-    if aim == 5 {
-        s.header = r.pick(&[5, 6, 7, 8]);
-        s.align = r.pick(flexray_header(s.header).unwrap().3);
-    }
-    let (h, ctr_at, len_at, _) = flexray_header(s.header).unwrap();
+fn flexray_reading(r: &mut Random, aim: &[Why], b: &Bounds) -> Call {
+    let mut s = flexray_suited(r, aim);
     let first = counter(r, 256);
     let (mut t, lens) = frame(r, &s, first);
-    match aim {
-        0 if r.one_in(4) => damage(r, &mut t),
-        5 => match r.below(3) {
-            0 => {
-                let at = r.pick(&lens);
-                let more = t[at].wrapping_add(r.from(1, 6) as u8);
-                t[at] = r.pick(&[255, 254, more, more]);
-            }
-            1 => {
-                let n = up(r.below(t.len()), 2);
-                t.truncate(n);
-            }
-            // A byte on the place of the next LEN.
-            _ => {
-                let last = *lens.last().unwrap();
-                let from = if last == len_at.unwrap() { h } else { last + 1 };
-                let next = up(from + t[last] as usize + 1, s.align as usize) - 1;
-                while t.len() <= next && t.len() + 2 <= s.ceiling as usize {
-                    add(r, &mut t, 2, Noise::Any);
-                }
-                if next < t.len() {
-                    t[next] = r.from(1, 255) as u8;
-                }
-            }
-        },
-        6 => match len_at {
-            Some(at) if r.one_in(2) => t[at] = 0,
-            _ => {
-                let n = r.from(0, h);
-                t.truncate(n);
-            }
-        },
-        7 => t[0] = if r.one_in(2) { t[0].wrapping_add(1) } else { r.byte() },
-        8 => match r.below(3) {
-            0 => t.push(r.byte()),
-            1 => {
-                t.pop();
-            }
-            _ => {
-                let n = if r.one_in(3) { r.from(255, 600) } else { s.ceiling as usize + r.from(1, 4) };
-                let more = n.saturating_sub(t.len());
-                add(r, &mut t, more, Noise::Any);
-            }
-        },
-        _ => {}
+    if aim.contains(&Past) {
+        run_past(r, &s, &mut t, &lens);
     }
-    if aim != 0 && r.one_in(8) {
+    frame_faults(r, &s, &mut t, aim);
+    if r.one_in(8) {
         damage(r, &mut t);
     }
-    if aim > 1 && !t.is_empty() && r.one_in(12) {
-        t[0] = t[0].wrapping_add(1);
-    }
-    let counters = ctr_at.map(|_| 256);
-    let broken = (aim == 1 && r.one_in(2)) || r.one_in(60);
-    let wrong = aim == 1 && !(broken && counters.is_some());
-    let c = state(r, counters, first, broken);
-    let need = match flexray_read(&s, &t, c, usize::MAX) {
-        Read::Rows(rows, _) => 5 * rows.len(),
-        _ => 5 * lens.len(),
-    };
-    let short = aim == 4 || (aim != 0 && r.one_in(5));
-    let table = lent(r, need, short, b.numbers);
-    if wrong || r.one_in(80) {
-        flexray_broken(r, &mut s);
+    let c = state(r, flexray_counters(&s), first, aim);
+    let table = lent(r, 5 * reasons::flexray_layout(&s, &t).1, aim, b.numbers);
+    if aim.contains(&Setting) || r.one_in(80) {
+        flexray_broken(r, &mut s, aim);
     }
     Call::FlexRayRead { s, t, c, table }
 }
 
-fn flexray_writing(r: &mut Random, aim: u32, b: &Bounds) -> Call {
-    let mut s = flexray_setting(r);
-    if aim == 1 && r.one_in(2) {
-        s.header = r.pick(&[3, 4, 7, 8]);
-        s.align = r.pick(flexray_header(s.header).unwrap().3);
+/// Makes a packet run past the frame: by its LEN, by a cut, or by a byte on the place of the next LEN.
+fn run_past(r: &mut Random, s: &FlexRay, t: &mut Vec<u8>, lens: &[usize]) {
+    match r.below(3) {
+        0 => {
+            let at = r.pick(lens);
+            let more = t[at].wrapping_add(r.from(1, 6) as u8);
+            t[at] = r.pick(&[255, 254, more, more]);
+        }
+        1 => {
+            let n = up(r.below(t.len()), 2);
+            t.truncate(n);
+        }
+        _ => {
+            let last = *lens.last().unwrap();
+            let from = if lens.len() == 1 { flexray_header(s.header).unwrap().0 } else { last + 1 };
+            let next = up(from + t[last] as usize + 1, s.align as usize) - 1;
+            while t.len() <= next && t.len() + 2 <= s.ceiling as usize {
+                add(r, t, 2, Noise::Any);
+            }
+            if next < t.len() {
+                t[next] = r.from(1, 255) as u8;
+            }
+        }
     }
-    let (h, ctr_at, len_at, _) = flexray_header(s.header).unwrap();
+}
+
+/// Makes the reasons hold that go by a frame's header and length; the length comes last.
+fn frame_faults(r: &mut Random, s: &FlexRay, t: &mut Vec<u8>, aim: &[Why]) {
+    let (h, _, len, _) = flexray_header(s.header).unwrap();
+    if aim.contains(&Bare) {
+        t[len.unwrap()] = 0;
+    }
+    if (aim.contains(&Node) || r.one_in(40)) && !t.is_empty() {
+        t[0] = if r.one_in(2) { t[0].wrapping_add(1) } else { r.byte() };
+    }
+    if aim.contains(&Short) {
+        t.truncate(r.from(0, h));
+    }
+    if aim.contains(&Ceiling) {
+        let n = if r.one_in(3) { r.from(255, 600) } else { s.ceiling as usize + r.from(1, 4) };
+        let more = n.saturating_sub(t.len());
+        let free = noise(r, false);
+        add(r, t, more, free);
+    }
+    if aim.contains(&Odd) {
+        if r.one_in(2) { t.push(r.byte()) } else { t.truncate(t.len().saturating_sub(1)) }
+    }
+}
+
+fn flexray_writing(r: &mut Random, aim: &[Why], b: &Bounds) -> Call {
+    let mut s = flexray_suited(r, aim);
+    let (h, ..) = flexray_header(s.header).unwrap();
     let (f, a) = (s.ceiling as usize, s.align as usize);
-    let n = match len_at {
-        Some(_) => r.pick(&[1, 1, 2, 3, 4, 30]),
-        None => 1,
-    };
+    let mut all = frame_list(r, &s, aim, b);
+    spoil(r, aim, &mut all, |r, why, before| match why {
+        Zero => Some(0),
+        Unfit => {
+            let from = before.iter().fold(h, |from, &l| up(from + l as usize + 1, a));
+            let past = (f + 1).saturating_sub(from);
+            Some(r.pick(&[past, past, past + 1, past + 2, f - h + 1, f, 255, 256, 257, 512]))
+        }
+        _ => None,
+    });
+    let (packets, lengths) = all;
+    let first = start(r, flexray_counters(&s), aim);
+    let fill = fill_byte(r);
+    let room = lent(r, reasons::flexray_size(&s, &lengths), aim, b.room);
+    if aim.contains(&Setting) || r.one_in(80) {
+        flexray_broken(r, &mut s, aim);
+    }
+    Call::FlexRayWrite { s, packets, lengths, first, fill, room }
+}
+
+/// A list for a frame that holds it, unless its count is to be wrong.
+fn frame_list(r: &mut Random, s: &FlexRay, aim: &[Why], b: &Bounds) -> (Vec<u8>, Vec<u32>) {
+    let (h, _, len, _) = flexray_header(s.header).unwrap();
+    let (f, a) = (s.ceiling as usize, s.align as usize);
+    if aim.contains(&Nothing) {
+        return (Vec::new(), Vec::new());
+    }
+    if aim.contains(&Count) {
+        let n = too_many(r, b);
+        return list(r, n, f - h);
+    }
+    if aim.contains(&Several) {
+        let n = r.pick(&[0, 2, 2, 3]);
+        return list(r, n, f - h);
+    }
+    if aim.contains(&Unfit) && r.one_in(60) {
+        return list(r, MOST_LENGTHS, 3);
+    }
+    let n = if len.is_some() { r.pick(&[1, 1, 2, 3, 4, 30]) } else { 1 };
     let content = noise(r, false);
     let (mut packets, mut lengths) = (Vec::new(), Vec::new());
     let mut from = h;
@@ -753,65 +823,16 @@ fn flexray_writing(r: &mut Random, aim: u32, b: &Bounds) -> Call {
         lengths.push(l as u32);
         from = up(from + l + 1, a);
     }
-    match aim {
-        2 => match r.below(5) {
-            0 => {
-                packets.clear();
-                lengths.clear();
-            }
-            1 if len_at.is_none() => {
-                packets.push(7);
-                lengths.push(1);
-            }
-            2 => {
-                let n = if r.one_in(2) { MOST_LENGTHS + 1 } else { r.from(MOST_LENGTHS + 1, b.lengths) };
-                (packets, lengths) = list(r, n, f - h);
-            }
-            _ => unequal(r, &mut packets, &mut lengths),
-        },
-        3 => match r.below(4) {
-            0 => {
-                let i = r.below(lengths.len());
-                relength(&mut packets, &mut lengths, i, 0);
-            }
-            1 if len_at.is_some() => {
-                let l = (f + 1).saturating_sub(from) + r.below(3);
-                packets.resize(packets.len() + l, 9);
-                lengths.push(l as u32);
-            }
-            2 if len_at.is_some() && r.one_in(20) => (packets, lengths) = list(r, MOST_LENGTHS, 3),
-            _ => {
-                let i = r.below(lengths.len());
-                let l = r.pick(&[f - h + 1, f - h + 2, f, 255, 256, 257, 512, lengths[i] as usize + 1, lengths[i] as usize + 2]);
-                relength(&mut packets, &mut lengths, i, l);
-            }
-        },
-        _ => {}
-    }
-    let counters = ctr_at.map(|_| 256);
-    let high = counters.is_some() && ((aim == 1 && r.one_in(2)) || r.one_in(60));
-    let first = start(r, counters, high);
-    let any = r.byte();
-    let fill = r.pick(&[0, 0xFF, 0xEE, 0xB7, any, any]);
-    let need = match flexray_write(&s, &packets, &lengths, first, fill, usize::MAX) {
-        Write::Bytes(out, _) => out.len(),
-        _ => 40,
-    };
-    let short = aim == 4 || (aim != 0 && r.one_in(5));
-    let room = lent(r, need, short, b.room);
-    if (aim == 1 && !high) || r.one_in(80) {
-        flexray_broken(r, &mut s);
-    }
-    Call::FlexRayWrite { s, packets, lengths, first, fill, room }
+    (packets, lengths)
 }
 
-fn parting(r: &mut Random, aim: u32) -> Call {
+fn parting(r: &mut Random, aim: &[Why]) -> Call {
     let n = r.below(40);
     let mut t = Vec::new();
     add(r, &mut t, n, Noise::Any);
     let place = r.below(n + 1);
     let (mut place, mut length) = (place as u32, r.below(n - place + 1) as u32);
-    if aim == 5 {
+    if aim.contains(&Past) {
         let far = large(r);
         match r.below(4) {
             0 => length = n as u32 - place + r.from(1, 3) as u32,

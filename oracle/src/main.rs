@@ -1,19 +1,26 @@
 //! A second reading of document 01: `oracle vectors SEED COUNT DIR` writes DIR/data/cases.bin and DIR/stdout, `oracle hits SEED COUNT`
-//! only counts. Both print how often each function gave each answer.
+//! only counts. Both print how often each function gave each answer and how often two reasons for refusal met, and fail if an answer or a
+//! pair that can meet never came.
 
+mod call;
 mod cases;
 mod examples;
 mod hits;
 mod random;
+mod reasons;
 mod record;
 mod rule;
 
-use cases::{Bounds, Call};
+use call::Call;
+use cases::Bounds;
 use std::fs;
 
 /// What the program of crates/vectors has room for.
 const BOUNDS: Bounds = Bounds { numbers: 20_480, room: 262_400, packets: 65_664, lengths: 4_160 };
 const BODY: usize = 2_048;
+
+/// How often each reader with its state lent is accepted, and refused for each reason.
+const LENT: usize = 20;
 
 fn main() {
     examples::check();
@@ -50,14 +57,15 @@ fn run(seed: &str, count: &str, dir: Option<&str>) {
             take(&Call::Kind { direction, packet: vec![first] });
         }
     }
-    let mut made = 0;
-    while made < count {
-        made += take(&cases::case(&mut r, &BOUNDS)) as usize;
+    cases::each(&mut r, &BOUNDS, count, LENT, &mut take);
+    print!("{}", hits.table());
+    if hits.lacking(1) {
+        println!("an answer, or a pair that can meet, never came");
+        std::process::exit(1);
     }
     if let Some(dir) = dir {
         fs::create_dir_all(format!("{dir}/data")).expect("DIR can be made");
         fs::write(format!("{dir}/data/cases.bin"), data).expect("DIR can be written");
         fs::write(format!("{dir}/stdout"), lines).expect("DIR can be written");
     }
-    print!("{}", hits.table());
 }

@@ -7,9 +7,9 @@
 //!
 //! A line has five numbers: 0 or the refusal's number; for rows the count, 1 or 0 for a state known or fresh, the counter expected;
 //! for written bytes the count, the next counter, 0; for a part its length, 0, 0; for a kind the kind, 0, 0; for a refusal its place,
-//! 0, 0; and the digest of all that was lent, or of the part.
+//! 0, 0; and the digest of all that was lent, or of the part. With the state lent, a refusal has the state as it is left in place of 0, 0.
 
-use crate::cases::*;
+use crate::call::*;
 use crate::rule::*;
 
 /// What stands in a table or output before the call.
@@ -77,7 +77,8 @@ fn flexray(s: &FlexRay) -> [u32; 6] {
 
 pub fn record(call: &Call) -> Vec<u8> {
     let none: Vec<u32> = Vec::new();
-    let (setting, four, bytes, lengths) = match call {
+    let by_value = if let Call::Lent(call) = call { call } else { call };
+    let (setting, four, bytes, lengths) = match by_value {
         Call::UsbRead { s, t, c, table } => (usb(s), [c.known as u32, c.expected, *table as u32, 0], t, &none),
         Call::UsbWrite { s, packets, lengths, first, fill, full, room } => {
             (usb(s), [*full as u32, *first, *room as u32, *fill as u32], packets, lengths)
@@ -88,6 +89,7 @@ pub fn record(call: &Call) -> Vec<u8> {
         }
         Call::Part { t, place, length } => ([0; 6], [*place, *length, 0, 0], t, &none),
         Call::Kind { direction, packet } => ([*direction, 0, 0, 0, 0, 0], [0; 4], packet, &none),
+        Call::Lent(_) => unreachable!("a state is lent once"),
     };
     let mut body = Vec::new();
     let byte_count = byte_runs(&mut body, bytes);
@@ -114,17 +116,31 @@ fn rows_digest(rows: &[Row], untouched: usize) -> u32 {
     (0..untouched).fold(written, |h, _| mix(h, NUMBER))
 }
 
-pub fn line(call: &Call, answer: &Answer) -> String {
-    let lent = match call {
+/// The length of the table or output that is lent.
+fn lent(call: &Call) -> usize {
+    match call {
         Call::UsbRead { table, .. } | Call::FlexRayRead { table, .. } => *table,
         Call::UsbWrite { room, .. } | Call::FlexRayWrite { room, .. } => *room,
+        Call::Lent(call) => lent(call),
         _ => 0,
-    };
+    }
+}
+
+fn read_numbers(read: &Read, lent: usize) -> [u32; 5] {
+    match read {
+        Read::Rows(rows, c) => [0, rows.len() as u32, c.known as u32, c.expected, rows_digest(rows, lent - 5 * rows.len())],
+        Read::Refused(n, place) => [*n, *place, 0, 0, rows_digest(&[], lent)],
+    }
+}
+
+pub fn line(call: &Call, answer: &Answer) -> String {
+    let lent = lent(call);
     let n = match answer {
-        Answer::Read(Read::Rows(rows, c)) => {
-            [0, rows.len() as u32, c.known as u32, c.expected, rows_digest(rows, lent - 5 * rows.len())]
+        Answer::Read(read) => read_numbers(read, lent),
+        Answer::Lent(read, c) => {
+            let [number, first, _, _, digest] = read_numbers(read, lent);
+            [number, first, c.known as u32, c.expected, digest]
         }
-        Answer::Read(Read::Refused(n, place)) => [*n, *place, 0, 0, rows_digest(&[], lent)],
         Answer::Write(Write::Bytes(out, next)) => [0, out.len() as u32, *next, 0, bytes_digest(out, lent - out.len())],
         Answer::Write(Write::Refused(n, place)) => [*n, *place, 0, 0, bytes_digest(&[], lent)],
         Answer::Part(Some((n, place)), part) => [*n, *place as u32, 0, 0, bytes_digest(part, 0)],

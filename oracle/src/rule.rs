@@ -129,7 +129,7 @@ pub fn up(n: usize, a: usize) -> usize {
     (n + a - 1) / a * a
 }
 
-fn field(t: &[u8], at: usize, width: usize) -> usize {
+pub fn field(t: &[u8], at: usize, width: usize) -> usize {
     if width == 1 { t[at] as usize } else { t[at] as usize + 256 * t[at + 1] as usize }
 }
 

@@ -1,0 +1,103 @@
+//! A call of a function, and what it must answer.
+
+use crate::reasons::{self, Fault};
+use crate::rule::*;
+
+/// A call of one of the functions with its inputs. `table` and `room` are the lengths of what is lent.
+#[derive(Clone, Debug)]
+pub enum Call {
+    UsbRead { s: Usb, t: Vec<u8>, c: Counter, table: usize },
+    UsbWrite { s: Usb, packets: Vec<u8>, lengths: Vec<u32>, first: u32, fill: u8, full: bool, room: usize },
+    FlexRayRead { s: FlexRay, t: Vec<u8>, c: Counter, table: usize },
+    FlexRayWrite { s: FlexRay, packets: Vec<u8>, lengths: Vec<u32>, first: u32, fill: u8, room: usize },
+    Part { t: Vec<u8>, place: u32, length: u32 },
+    Kind { direction: u32, packet: Vec<u8> },
+    /// A reader's call with the state lent.
+    Lent(Box<Call>),
+}
+
+#[derive(Clone, Debug, PartialEq)]
+pub enum Answer {
+    Read(Read),
+    Write(Write),
+    Part(Option<(u32, u64)>, Vec<u8>),
+    Kind(u32),
+    /// What a reader answers, and the state as it is left.
+    Lent(Read, Counter),
+}
+
+pub const NAMES: [&str; 8] =
+    ["usb_read", "usb_write", "flexray_read", "flexray_write", "part", "kind", "usb_read_lent", "flexray_read_lent"];
+
+/// The functions whose reasons can meet; those with the state lent have the readers' own.
+pub const PAIRED: usize = 4;
+
+impl Call {
+    pub fn function(&self) -> usize {
+        match self {
+            Call::UsbRead { .. } => 0,
+            Call::UsbWrite { .. } => 1,
+            Call::FlexRayRead { .. } => 2,
+            Call::FlexRayWrite { .. } => 3,
+            Call::Part { .. } => 4,
+            Call::Kind { .. } => 5,
+            Call::Lent(call) => 6 + call.function() / 2,
+        }
+    }
+
+    pub fn answer(&self) -> Answer {
+        match self {
+            Call::UsbRead { s, t, c, table } => Answer::Read(usb_read(s, t, *c, *table)),
+            Call::UsbWrite { s, packets, lengths, first, fill, full, room } => {
+                Answer::Write(usb_write(s, packets, lengths, *first, *fill, *full, *room))
+            }
+            Call::FlexRayRead { s, t, c, table } => Answer::Read(flexray_read(s, t, *c, *table)),
+            Call::FlexRayWrite { s, packets, lengths, first, fill, room } => {
+                Answer::Write(flexray_write(s, packets, lengths, *first, *fill, *room))
+            }
+            Call::Part { t, place, length } => match part(t.len(), *place as u64, *length as u64) {
+                Some(refused) => Answer::Part(Some(refused), Vec::new()),
+                None => Answer::Part(None, t[*place as usize..][..*length as usize].to_vec()),
+            },
+            Call::Kind { direction, packet } => Answer::Kind(kind(*direction, packet[0])),
+            Call::Lent(call) => call.lent_answer(),
+        }
+    }
+
+    fn lent_answer(&self) -> Answer {
+        match (self, self.answer()) {
+            (_, Answer::Read(Read::Rows(rows, state))) => Answer::Lent(Read::Rows(rows, state), state),
+            (Call::UsbRead { c, .. } | Call::FlexRayRead { c, .. }, Answer::Read(refused)) => Answer::Lent(refused, *c),
+            _ => unreachable!("only readers have their state lent"),
+        }
+    }
+
+    /// Every reason for refusal that holds.
+    pub fn faults(&self) -> Vec<Fault> {
+        match self {
+            Call::UsbRead { s, t, c, table } => reasons::usb_reader(s, t, *c, *table),
+            Call::UsbWrite { s, packets, lengths, first, full, room, .. } => {
+                reasons::usb_writer(s, packets, lengths, *first, *full, *room)
+            }
+            Call::FlexRayRead { s, t, c, table } => reasons::flexray_reader(s, t, *c, *table),
+            Call::FlexRayWrite { s, packets, lengths, first, room, .. } => {
+                reasons::flexray_writer(s, packets, lengths, *first, *room)
+            }
+            Call::Part { t, place, length } => reasons::parts(t.len(), *place, *length),
+            Call::Kind { .. } => Vec::new(),
+            Call::Lent(call) => call.faults(),
+        }
+    }
+}
+
+impl Answer {
+    /// The refusal's number and place.
+    pub fn refusal(&self) -> Option<(u32, usize)> {
+        match self {
+            Answer::Read(Read::Refused(n, place)) | Answer::Lent(Read::Refused(n, place), _) => Some((*n, *place as usize)),
+            Answer::Write(Write::Refused(n, place)) => Some((*n, *place as usize)),
+            Answer::Part(refused, _) => refused.map(|(n, place)| (n, place as usize)),
+            _ => None,
+        }
+    }
+}
