@@ -65,7 +65,7 @@ use Rattle.lent.proofs.ThinState.{Stateful, parts, told-parts, told, le
 use Rattle.lent.proofs.ThinSteps.{with-both, naming, reads, reads-field, assigns-to, takes, freed}
 
 -- a type that holds no reference: at exit it is as it was passed. A crate's own is this by computation
-abbrev held : Declared → RattleType
+abbrev pub held : Declared → RattleType
 held S = record {
   Denot = S .D;
   mir = layout (shape S) ∷ [];

@@ -30,10 +30,10 @@ refused-arm =
     (seq (assign (place 8 []) (rvOpd (copy (place 9 (variant 1 ∷ field 2 ∷ [])))))
     (assign (place 13 []) (aggregate (int w8 1 ∷ copy (place 7 []) ∷ copy (place 8 []) ∷ []))))
 
-abbrev slice : Ty → Ty
+abbrev pub slice : Ty → Ty
 slice τ = tyStruct (38 ∷ 91 ∷ 93 ∷ []) (tcons τ (tcons (tyInt w64) tnil))
 
-abbrev holds : Ty → Local
+abbrev pub holds : Ty → Local
 holds τ = local τ valueLocal
 
 -- at the types of the setting, of the state, by value and behind a reference, of the reading and of what is told, and at the name by which

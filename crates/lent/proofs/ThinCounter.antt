@@ -51,13 +51,13 @@ counter = record {
 
 -- A reader whose contract is `Gives` at readOf, and a thin function whose contract is `Tells` at it
 module _ (S : Declared) (L : LL.Laws S) (S-plain : Plains (fields S)) (readOf : S .D → List ℕ → Counter → List ℕ → Answer Reading) where
-  abbrev Read-says : Reads-of S counter
+  abbrev pub Read-says : Reads-of S counter
   Read-says s t c rows r left = Gives (readOf s t c rows) r left
 
-  abbrev Thin-says : Tells-of S counter
+  abbrev pub Thin-says : Tells-of S counter
   Thin-says s t c rows r d left = Tells (readOf s t c rows) c r d left
 
-  abbrev follows : Follows-of S counter Read-says Thin-says
+  abbrev pub follows : Follows-of S counter Read-says Thin-says
   follows s t c rows r left g = record { told = ap toldOf (g .answer); state = ap (readState c) (g .answer); lent = g .lent }
 
   pub thin-read : {M : Type 1} → Holds S L S-plain counter Read-says Thin-says follows M
