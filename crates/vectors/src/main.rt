@@ -2,6 +2,8 @@
 // reading of document 01 (oracle/), whose src/record.rs says how a case and a line are written.
 ghost use Prim.Native.Nat.{_<_, _≤_};
 ghost use lib.ListN.{length};
+use lending::Lent;
+use lent::Told;
 use libc::STDOUT_FILENO;
 use packet::Checked;
 use packet::Counter;
@@ -187,24 +189,22 @@ fn length_runs(body: &[u8], from: usize, runs: u32, out: &mut [u32]) -> usize {
     to
 }
 
-fn refused(n: u32, place: u32, digest: u64) -> Line {
+fn line_of(n: u32, first: u32, second: u32, third: u32, digest: u64) -> Line {
     Line {
         number: n as u64,
-        first: place as u64,
-        second: 0,
-        third: 0,
-        digest,
-    }
-}
-
-fn accepted(first: u32, second: u32, third: u32, digest: u64) -> Line {
-    Line {
-        number: 0,
         first: first as u64,
         second: second as u64,
         third: third as u64,
         digest,
     }
+}
+
+fn refused(n: u32, place: u32, digest: u64) -> Line {
+    line_of(n, place, 0, 0, digest)
+}
+
+fn accepted(first: u32, second: u32, third: u32, digest: u64) -> Line {
+    line_of(0, first, second, third, digest)
 }
 
 // A case that does not fit here: no answer has this number.
@@ -217,6 +217,17 @@ fn reading(answer: Reading, rows: &[u32]) -> Line {
     match answer {
         Reading::Rows(k, c) => accepted(k, (c.known != 0) as u32, c.expected, digest),
         Reading::Refused(n, place) => refused(n, place, digest),
+    }
+}
+
+// With the state lent the line has the state as it was left, refused or not.
+fn telling(answer: Lent, rows: &[u32]) -> Line {
+    let digest = numbers_digest(rows);
+    let c = answer.state;
+    let told = answer.told;
+    match told {
+        Told::Rows(k) => line_of(0, k, c.known, c.expected, digest),
+        Told::Refused(n, place) => line_of(n, place, c.known, c.expected, digest),
     }
 }
 
@@ -257,9 +268,13 @@ fn state(head: &[u8]) -> Counter {
 }
 
 fn usb_read(head: &[u8], t: &[u8], rows: &mut [u32]) -> Line {
-    repeat_number(0xA5C31E7F, rows.len(), rows);
     let answer = usb_reader::read(usb_setting(head), t, state(head), rows);
     reading(answer, rows)
+}
+
+fn usb_read_lent(head: &[u8], t: &[u8], rows: &mut [u32]) -> Line {
+    let answer = lending::usb_lent(usb_setting(head), t, state(head), rows);
+    telling(answer, rows)
 }
 
 fn usb_write(head: &[u8], packets: &[u8], lengths: &[u32], out: &mut [u8]) -> Line {
@@ -278,9 +293,13 @@ fn usb_write(head: &[u8], packets: &[u8], lengths: &[u32], out: &mut [u8]) -> Li
 }
 
 fn flexray_read(head: &[u8], t: &[u8], rows: &mut [u32]) -> Line {
-    repeat_number(0xA5C31E7F, rows.len(), rows);
     let answer = flexray_reader::read(flexray_setting(head), t, state(head), rows);
     reading(answer, rows)
+}
+
+fn flexray_read_lent(head: &[u8], t: &[u8], rows: &mut [u32]) -> Line {
+    let answer = lending::flexray_lent(flexray_setting(head), t, state(head), rows);
+    telling(answer, rows)
 }
 
 fn flexray_write(head: &[u8], packets: &[u8], lengths: &[u32], out: &mut [u8]) -> Line {
@@ -325,11 +344,14 @@ fn read_case(
     if table > numbers.len() {
         return unfit();
     }
+    repeat_number(0xA5C31E7F, table, numbers);
     match function {
         0 => usb_read(head, t, &mut numbers[0..table]),
         2 => flexray_read(head, t, &mut numbers[0..table]),
         4 => part_case(head, t),
         5 => kind_case(head, t),
+        6 => usb_read_lent(head, t, &mut numbers[0..table]),
+        7 => flexray_read_lent(head, t, &mut numbers[0..table]),
         _ => unfit(),
     }
 }
