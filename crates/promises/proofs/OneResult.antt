@@ -2,7 +2,7 @@
 -- for each entry point and for each other public function that asks nothing, about the contract that stands in its code (`Post`: see Tied). Inner
 -- functions that ask something are public for our own crates only: docs/DECISIONS.md lists them.
 use Prim.Native.Nat.{ℕ}
-use mathlib.Core.Path.{_≡_, sym, _∙_}
+use mathlib.Core.Path.{_≡_, sym, ap, _∙_}
 use mathlib.Core.List.{List}
 use Rattle.layout.proofs.all.Reads as All
 use Rattle.layout.proofs.both.Reads as BothTests
@@ -37,6 +37,10 @@ use Rattle.flexray_plan.proofs.PlanLaws as FlexRayPlans
 use Rattle.flexray_plan.proofs.plan_for.Reads as FlexRayPlanFor
 use Rattle.flexray_reader.proofs.read.Reads as FlexRayRead
 use Rattle.flexray_writer.proofs.write.Reads as FlexRayWrite
+use Rattle.lending.specs.declared.Lent.{Lent}
+use Rattle.lending.specs.Lends.{Lends}
+use Rattle.lending.proofs.usb_lent.Reads as LendUsb
+use Rattle.lending.proofs.flexray_lent.Reads as LendFlexRay
 use Rattle.rowtext.proofs.ReportLaws.{one-report}
 use Rattle.rowtext.proofs.report.Reads as Report
 use Rattle.plumagemud.proofs.ResultLaws.{one-read, one-written}
@@ -78,6 +82,19 @@ flexray-write x a r u e f = one-result
 pub read-lent : {a : Answer Reading} {c : Counter} (r u : Told) (d e : Counter) (left past : List ℕ) → Tells a c r d left → Tells a c u e past
     → (r ≡ u) × (d ≡ e) × (left ≡ past)
 read-lent r u d e left past = one-telling
+
+-- and of lending's functions: what was told with the state that is given back, and the table
+one-lent : {a : Answer Reading} {c : Counter} {r u : Lent} {left past : List ℕ} → Lends a c r left → Lends a c u past → (r ≡ u) × (left ≡ past)
+one-lent {r = r} {u = u} g h =
+    let (told, state, rows) = one-telling g h in
+    let lent : Told → Counter → Lent = λ x d. record { told = x; state = d } in
+    (ap (λ x. lent x (r .state)) told ∙ ap (lent (u .told)) state, rows)
+
+pub lending-usb : (x : _) (a : _) → Both (λ e. e .1 .1 .1 .0 .now) (LendUsb.Post x a)
+lending-usb x a r u e f = one-lent
+
+pub lending-flexray : (x : _) (a : _) → Both (λ e. e .1 .1 .1 .0 .now) (LendFlexRay.Post x a)
+lending-flexray x a r u e f = one-lent
 
 ---- C --------------------------------------------------------------------------------------------------------------------------
 

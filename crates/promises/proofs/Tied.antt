@@ -27,6 +27,8 @@ use Rattle.flexray.specs.Writing.{writeOf as flexrayWriteOf}
 use Rattle.flexray_reader.proofs.read.Reads as FlexRayRead
 use Rattle.flexray_reader.proofs.read_lent as FlexRayLent
 use Rattle.flexray_writer.proofs.write.Reads as FlexRayWrite
+use Rattle.lending.proofs.usb_lent.Reads as LendUsb
+use Rattle.lending.proofs.flexray_lent.Reads as LendFlexRay
 use Rattle.rowtext.specs.Put.{Prepared, Reports}
 use Rattle.rowtext.specs.Text.{programText}
 use Rattle.rowtext.proofs.report.Reads as Report
@@ -84,6 +86,17 @@ module _ {M : Type 1} (𝓤 : URA M) (H : Heap 𝓤) where
       ≡ fact 𝓤 (Tells (flexrayReadOf (a .0) (a .1 .0 .now) (a .1 .1 .0 .now) (a .1 .1 .1 .0 .now)) (a .1 .1 .0 .now)
       r (e .1 .1 .0 .now) (e .1 .1 .1 .0 .now)))
   flexray-lent A m f x a r e = (refl, refl)
+
+-- lending's functions, which lend a state that they hold
+pub lending-usb : (x : _) (a : _) (r : _) (e : _) → LendUsb.Asked x a
+    × (LendUsb.Post x a r e → Tells (usbReadOf (a .0) (a .1 .0 .now) (a .1 .1 .0) (a .1 .1 .1 .0 .now)) (a .1 .1 .0)
+    (r .told) (r .state) (e .1 .1 .1 .0 .now))
+lending-usb x a r e = (tt, λ p. p)
+
+pub lending-flexray : (x : _) (a : _) (r : _) (e : _) → LendFlexRay.Asked x a
+    × (LendFlexRay.Post x a r e → Tells (flexrayReadOf (a .0) (a .1 .0 .now) (a .1 .1 .0) (a .1 .1 .1 .0 .now)) (a .1 .1 .0)
+    (r .told) (r .state) (e .1 .1 .1 .0 .now))
+lending-flexray x a r e = (tt, λ p. p)
 
 ---- Packets --------------------------------------------------------------------------------------------------------------------
 
