@@ -9,7 +9,7 @@ use lib.ListN.{length, getD, set, drop, replicate}
 use lib.Seq.{sets, take-add, drop-drop, set-set}
 use Rattle.layout.proofs.PartLaws.{drop-next, long}
 use Rattle.layout.proofs.RunLaws.{sets-append}
-use Rattle.blocks.specs.Blocks.{few, partOf}
+use Rattle.blocks.specs.Blocks.{few, block}
 
 ---- One to three bytes ---------------------------------------------------------------------------------------------------------
 
@@ -45,7 +45,7 @@ few-part (a ∷ b ∷ c ∷ d ∷ bs) h = absurd (omega arith)
 ---- Four bytes -----------------------------------------------------------------------------------------------------------------
 
 pub four-is : (bs : List ℕ) (i : ℕ) → i + 4 ≤ length bs
-    → getD bs i 0 ∷ getD bs (i + 1) 0 ∷ getD bs (i + 2) 0 ∷ getD bs (i + 3) 0 ∷ [] ≡ partOf bs i 4
+    → getD bs i 0 ∷ getD bs (i + 1) 0 ∷ getD bs (i + 2) 0 ∷ getD bs (i + 3) 0 ∷ [] ≡ block bs i 4
 four-is bs i h =
     sym (rw (
       drop-next bs i (omega arith),
@@ -62,14 +62,14 @@ four-put out at a b c d = rw (add-one, add-two, add-three)
 
 ---- A block behind another -----------------------------------------------------------------------------------------------------
 
-pub part-join : (bs : List ℕ) (i n m : ℕ) {vs ws : List ℕ} → vs ≡ partOf bs i n → ws ≡ partOf bs (i + n) m → vs ++ ws ≡ partOf bs i (n + m)
+pub part-join : (bs : List ℕ) (i n m : ℕ) {vs ws : List ℕ} → vs ≡ block bs i n → ws ≡ block bs (i + n) m → vs ++ ws ≡ block bs i (n + m)
 part-join bs i n m x y = rw (x, y) (sym (take-add n m (drop i bs) ∙ rw (drop-drop n i bs)))
 
 pub put-behind : (vs ws out : List ℕ) (at n : ℕ) → length vs ≡ n → {one two : List ℕ} → one ≡ sets out at vs → two ≡ sets one (at + n) ws
     → two ≡ sets out at (vs ++ ws)
 put-behind vs ws out at n l x y = y ∙ rw (x, ← l) (sym (sets-append vs ws out at))
 
-pub part-behind : (bs out : List ℕ) (at i n m : ℕ) → i + n ≤ length bs → {one two vs : List ℕ} → one ≡ sets out at (partOf bs i n)
-    → vs ≡ partOf bs (i + n) m → two ≡ sets one (at + n) vs → two ≡ sets out at (partOf bs i (n + m))
+pub part-behind : (bs out : List ℕ) (at i n m : ℕ) → i + n ≤ length bs → {one two vs : List ℕ} → one ≡ sets out at (block bs i n)
+    → vs ≡ block bs (i + n) m → two ≡ sets one (at + n) vs → two ≡ sets out at (block bs i (n + m))
 part-behind bs out at i n m h {vs} x y z =
-    put-behind (partOf bs i n) vs out at n (long bs i n h) x z ∙ ap (sets out at) (part-join bs i n m refl y)
+    put-behind (block bs i n) vs out at n (long bs i n h) x z ∙ ap (sets out at) (part-join bs i n m refl y)

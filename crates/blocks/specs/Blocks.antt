@@ -23,9 +23,9 @@ four f = f .0 ∷ f .1 ∷ f .2 ∷ f .3 ∷ []
 unfoldable pub sixteen : Sixteen → List ℕ
 sixteen s = ((four (s .0) ++ four (s .1)) ++ four (s .2)) ++ four (s .3)
 
--- the n bytes from i on
-abbrev pub partOf : List ℕ → ℕ → ℕ → List ℕ
-partOf bs i n = take n (drop i bs)
+-- the block of n bytes from i on
+abbrev pub block : List ℕ → ℕ → ℕ → List ℕ
+block bs i n = take n (drop i bs)
 
 -- a run of low to high bytes has room
 pub record Short (out : List ℕ) (at n low high : ℕ) : Type 0 where

@@ -2,7 +2,7 @@
 // nothing else tells the compiler that what is read and what is written lie apart.
 ghost use mathlib.Core.Path.{_≡_};
 ghost use lib.Seq.{sets};
-ghost use Rattle.blocks.specs.Blocks.{Inside, Short, Copyable, few, four, sixteen, partOf};
+ghost use Rattle.blocks.specs.Blocks.{Inside, Short, Copyable, few, four, sixteen, block};
 
 // Puts one to three bytes from a place on: the first, the middle and the last.
 pub fn put_few(out: &mut [u8], at: usize, n: usize, first: u8, middle: u8, last: u8)
@@ -20,7 +20,7 @@ pub struct Four(pub u8, pub u8, pub u8, pub u8);
 // The four bytes of a part from a place on.
 fn four_at(part: &[u8], i: usize) -> Four
     requires { ⌜ Inside (now part) i 4 ⌝ }
-    ensures { λ r. ⌜ four r ≡ partOf (now (part .entry)) i 4 ⌝ }
+    ensures { λ r. ⌜ four r ≡ block (now (part .entry)) i 4 ⌝ }
 {
     Four(part[i], part[i + 1], part[i + 2], part[i + 3])
 }
@@ -42,7 +42,7 @@ struct Sixteen(Four, Four, Four, Four);
 // The sixteen bytes of a part from a place on.
 fn sixteen_at(part: &[u8], i: usize) -> Sixteen
     requires { ⌜ Inside (now part) i 16 ⌝ }
-    ensures { λ r. ⌜ sixteen r ≡ partOf (now (part .entry)) i 16 ⌝ }
+    ensures { λ r. ⌜ sixteen r ≡ block (now (part .entry)) i 16 ⌝ }
 {
     Sixteen(
         four_at(part, i),
@@ -66,7 +66,7 @@ fn put_sixteen(out: &mut [u8], at: usize, s: Sixteen)
 // Copies four bytes.
 pub fn copy_four(out: &mut [u8], at: usize, part: &[u8], i: usize)
     requires { ⌜ Copyable (now out) at (now part) i 4 ⌝ }
-    ensures { λ _. ⌜ now (out .exit) ≡ sets (now (out .entry)) at (partOf (now (part .entry)) i 4) ⌝ }
+    ensures { λ _. ⌜ now (out .exit) ≡ sets (now (out .entry)) at (block (now (part .entry)) i 4) ⌝ }
 {
     let f = four_at(part, i);
     put_four(out, at, f);
@@ -75,7 +75,7 @@ pub fn copy_four(out: &mut [u8], at: usize, part: &[u8], i: usize)
 // Copies eight bytes.
 pub fn copy_eight(out: &mut [u8], at: usize, part: &[u8], i: usize)
     requires { ⌜ Copyable (now out) at (now part) i 8 ⌝ }
-    ensures { λ _. ⌜ now (out .exit) ≡ sets (now (out .entry)) at (partOf (now (part .entry)) i 8) ⌝ }
+    ensures { λ _. ⌜ now (out .exit) ≡ sets (now (out .entry)) at (block (now (part .entry)) i 8) ⌝ }
 {
     let a = four_at(part, i);
     let b = four_at(part, i + 4);
@@ -86,7 +86,7 @@ pub fn copy_eight(out: &mut [u8], at: usize, part: &[u8], i: usize)
 // Copies sixteen bytes.
 pub fn copy_sixteen(out: &mut [u8], at: usize, part: &[u8], i: usize)
     requires { ⌜ Copyable (now out) at (now part) i 16 ⌝ }
-    ensures { λ _. ⌜ now (out .exit) ≡ sets (now (out .entry)) at (partOf (now (part .entry)) i 16) ⌝ }
+    ensures { λ _. ⌜ now (out .exit) ≡ sets (now (out .entry)) at (block (now (part .entry)) i 16) ⌝ }
 {
     let s = sixteen_at(part, i);
     put_sixteen(out, at, s);
@@ -95,7 +95,7 @@ pub fn copy_sixteen(out: &mut [u8], at: usize, part: &[u8], i: usize)
 // Copies thirty-two bytes.
 pub fn copy_thirty_two(out: &mut [u8], at: usize, part: &[u8], i: usize)
     requires { ⌜ Copyable (now out) at (now part) i 32 ⌝ }
-    ensures { λ _. ⌜ now (out .exit) ≡ sets (now (out .entry)) at (partOf (now (part .entry)) i 32) ⌝ }
+    ensures { λ _. ⌜ now (out .exit) ≡ sets (now (out .entry)) at (block (now (part .entry)) i 32) ⌝ }
 {
     let low = sixteen_at(part, i);
     let high = sixteen_at(part, i + 16);
@@ -106,7 +106,7 @@ pub fn copy_thirty_two(out: &mut [u8], at: usize, part: &[u8], i: usize)
 // Copies sixty-four bytes.
 pub fn copy_sixty_four(out: &mut [u8], at: usize, part: &[u8], i: usize)
     requires { ⌜ Copyable (now out) at (now part) i 64 ⌝ }
-    ensures { λ _. ⌜ now (out .exit) ≡ sets (now (out .entry)) at (partOf (now (part .entry)) i 64) ⌝ }
+    ensures { λ _. ⌜ now (out .exit) ≡ sets (now (out .entry)) at (block (now (part .entry)) i 64) ⌝ }
 {
     let a = sixteen_at(part, i);
     let b = sixteen_at(part, i + 16);

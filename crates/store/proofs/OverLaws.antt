@@ -6,7 +6,7 @@ use mathlib.Core.Path.{_≡_, refl, sym, ap, _∙_}
 use mathlib.Core.List.{List, [], _∷_, _++_, append-nil}
 use lib.ListN.{length, set, take, drop, replicate, length-take, length-drop, length-replicate, drop-of-length-le}
 use lib.Seq.{sets, take-all, drop-drop, set-set, length-sets}
-use Rattle.blocks.specs.Blocks.{partOf}
+use Rattle.blocks.specs.Blocks.{block}
 use Rattle.store.proofs.StoreLaws.{Left, set-before}
 
 ---- A block over another -------------------------------------------------------------------------------------------------------
@@ -41,27 +41,27 @@ over (b ∷ bs) out at (suc j) (suc k) h = rw (add-suc at j, ← suc-add at j) (
 
 -- the first k bytes are put, and then the last m
 pub part-ends : (bs out : List ℕ) (at k m : ℕ) → m ≤ length bs → length bs ≤ k + m → {one two vs : List ℕ} {p : ℕ}
-    → one ≡ sets out at (take k bs) → p ≡ at + (length bs - m) → vs ≡ partOf bs (length bs - m) m → two ≡ sets one p vs
+    → one ≡ sets out at (take k bs) → p ≡ at + (length bs - m) → vs ≡ block bs (length bs - m) m → two ≡ sets one p vs
     → two ≡ sets out at bs
 part-ends bs out at k m l h x e y z =
     let d : length (drop (length bs - m) bs) ≡ length bs - (length bs - m) = length-drop (length bs - m) bs in
-    let t : partOf bs (length bs - m) m ≡ drop (length bs - m) bs = take-all m (drop (length bs - m) bs) (omega arith) in
+    let t : block bs (length bs - m) m ≡ drop (length bs - m) bs = take-all m (drop (length bs - m) bs) (omega arith) in
     z ∙ rw (x, e, y, t) (over bs out at (length bs - m) k (omega arith))
 
 ---- The turns of a loop --------------------------------------------------------------------------------------------------------
 
 -- the bytes from i on are left, and n of them are put
 module _ {old bs out : List ℕ} {at : ℕ} (i : ℕ) (l : Left old at bs out (at + i) (drop i bs)) (n : ℕ) {one : List ℕ}
-    (x : one ≡ sets out (at + i) (partOf bs i n)) where
+    (x : one ≡ sets out (at + i) (block bs i n)) where
   pub left-turn : (j : ℕ) → i ≤ j → j ≤ i + n → Left old at bs one (at + j) (drop j bs)
   left-turn j a b =
       let e : i + (j - i) ≡ j = omega arith in
       let f : at + i + (j - i) ≡ at + j = omega arith in
-      let o : sets (sets out (at + i) (partOf bs i n)) (at + i + (j - i)) (drop (j - i) (drop i bs)) ≡ sets out (at + i) (drop i bs) =
+      let o : sets (sets out (at + i) (block bs i n)) (at + i + (j - i)) (drop (j - i) (drop i bs)) ≡ sets out (at + i) (drop i bs) =
       over (drop i bs) out (at + i) (j - i) n (omega arith) in
       record {
         same = l .same ∙ sym (rw x (rw (f, drop-drop (j - i) i bs, e) at o));
-        long = ap length x ∙ length-sets out (at + i) (partOf bs i n) ∙ l .long;
+        long = ap length x ∙ length-sets out (at + i) (block bs i n) ∙ l .long;
       }
 
   pub left-end : length bs ≤ i + n → one ≡ sets old at bs
@@ -86,5 +86,5 @@ fill-ends out at n m b l h x e z =
     let f : List ℕ = replicate n b in
     let d : length f ≡ n = length-replicate n b in
     let r : n - (n - m) ≡ m = omega arith in
-    let t : replicate m b ≡ partOf f (length f - m) m = sym (rw (d, drop-replicate (n - m) n b, r) (take-replicate m m b (omega arith))) in
+    let t : replicate m b ≡ block f (length f - m) m = sym (rw (d, drop-replicate (n - m) n b, r) (take-replicate m m b (omega arith))) in
     part-ends f out at m m (omega arith) (omega arith) (x ∙ rw (take-replicate m n b l)) (e ∙ rw d) t z
