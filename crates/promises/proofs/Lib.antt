@@ -1,5 +1,7 @@
 pub mod Call
 pub mod Flexray
+pub mod FlexrayLimits
+pub mod Limits
 pub mod Numbers
 pub mod OneResult
 pub mod Promises
@@ -7,3 +9,4 @@ pub mod ShutOut
 pub mod Starred
 pub mod Tied
 pub mod Usb
+pub mod UsbLimits

@@ -1,10 +1,10 @@
 -- The examples of document 01, starred ones and their neighbours, in one table under one proof that is computed: each line is a call, and
 -- what the definition that the call's contract cites answers, with the lent table or output as it is left.
-use Prim.Native.Nat.{ℕ}
+use Prim.Native.Nat.{ℕ, _-_, _/_}
 use mathlib.Core.Path.{_≡_, refl}
 use mathlib.Core.Bool.{Bool, true, false}
 use mathlib.Core.List.{List, [], _∷_, _++_, map}
-use lib.ListN.{replicate}
+use lib.ListN.{length, replicate}
 use Rattle.layout.specs.Multiple.{pad}
 use Rattle.layout.specs.Walk.{walk, go}
 use Rattle.packet.specs.declared.Counter.{Counter}
@@ -25,6 +25,14 @@ use Rattle.flexray.specs.Setting as F
 use Rattle.flexray.specs.Reading as FlexRayReading
 use Rattle.flexray.specs.Row as FlexRayRow
 use Rattle.flexray.specs.Writing as FlexRayWriting
+
+-- header, packing, A, M, X, direction
+abbrev pub usb : ℕ → ℕ → ℕ → ℕ → ℕ → ℕ → UsbSetting.Setting
+usb h p a m x d = record { header = h; packing = p; align = a; datapacket = m; longest = x; direction = d }
+
+-- node, direction, F, header, A
+abbrev pub flexray : ℕ → ℕ → ℕ → ℕ → ℕ → FlexRaySetting.Setting
+flexray n d f h a = record { node = n; direction = d; ceiling = f; header = h; align = a }
 
 -- U1 in the packing given, U2, and R
 abbrev pub U1 : ℕ → UsbSetting.Setting
@@ -61,11 +69,14 @@ unread n p left = read (record { answer = Reads.Refused n p; lent = spare left }
 abbrev pub bytes : ℕ → ℕ → List ℕ → ℕ → Result
 bytes k c bs left = wrote (record { answer = Writes.Bytes k c; lent = bs ++ spare left })
 
-pub record Example : Type 0 where
-  pub gives : Result
-  pub is : Result
+abbrev pub unwritten : ℕ → ℕ → ℕ → Result
+unwritten n p left = wrote (record { answer = Writes.Refused n p; lent = spare left })
 
-abbrev pub example : Result → Result → Example
+pub record Example (A : Type 0) : Type 0 where
+  pub gives : A
+  pub is : A
+
+abbrev pub example : {A : Type 0} → A → A → Example A
 example r e = record { gives = r; is = e }
 
 abbrev pub usb-reads : UsbSetting.Setting → List ℕ → Counter → Result
@@ -74,11 +85,15 @@ usb-reads s t c = read (UsbReading.readOf s t c (spare 12))
 abbrev pub usb-writes : UsbSetting.Setting → (bs ns : List ℕ) → ℕ → ℕ → Bool → Result
 usb-writes s bs ns c fill full = wrote (UsbWriting.writeOf s bs ns c fill full (spare 16))
 
-abbrev pub flexray-reads : FlexRaySetting.Setting → List ℕ → Result
-flexray-reads s t = read (FlexRayReading.readOf s t fresh (spare 12))
+abbrev pub flexray-reads : FlexRaySetting.Setting → List ℕ → Counter → Result
+flexray-reads s t c = read (FlexRayReading.readOf s t c (spare 12))
 
-abbrev pub flexray-writes : FlexRaySetting.Setting → (bs ns : List ℕ) → ℕ → Result
-flexray-writes s bs ns fill = wrote (FlexRayWriting.writeOf s bs ns 0 fill (spare 16))
+abbrev pub flexray-writes : FlexRaySetting.Setting → (bs ns : List ℕ) → ℕ → ℕ → Result
+flexray-writes s bs ns c fill = wrote (FlexRayWriting.writeOf s bs ns c fill (spare 16))
+
+-- both, of the same bytes: they are written with the next counter d, and read as the rows ns, which leave the state c
+abbrev pub both : List ℕ → ℕ → Counter → List ℕ → Result × Result
+both bs d c ns = (bytes (length bs) d bs (16 - length bs), rows (length ns / 5) c ns (12 - length ns))
 
 abbrev pub twelve : List ℕ
 twelve = 0x01 ∷ 0xFE ∷ 0xFF ∷ 0xEE ∷ 0x03 ∷ 0xFF ∷ 0x01 ∷ 0x02 ∷ 0x03 ∷ 0xEE ∷ 0xEE ∷ 0xEE ∷ []
@@ -87,7 +102,7 @@ twelve = 0x01 ∷ 0xFE ∷ 0xFF ∷ 0xEE ∷ 0x03 ∷ 0xFF ∷ 0x01 ∷ 0x02 ∷
 abbrev pub two : List ℕ
 two = 0xFF ∷ 0x01 ∷ 0x02 ∷ 0x03 ∷ []
 
-unfoldable pub examples : List Example
+unfoldable pub examples : List (Example Result)
 examples =
     example (usb-writes (U1 1) two (1 ∷ 3 ∷ []) 254 0xEE false) (bytes 12 0 twelve 4)
     ∷ example (usb-writes (U1 1) two (1 ∷ 3 ∷ []) 254 0xEE true) (bytes 16 0 (twelve ++ (0x00 ∷ 0xEE ∷ 0xEE ∷ 0xEE ∷ [])) 0)
@@ -108,12 +123,12 @@ examples =
     ∷ example (usb-writes U2 (0x10 ∷ 0x11 ∷ 0x12 ∷ 0x13 ∷ 0x14 ∷ 0x20 ∷ []) (5 ∷ 1 ∷ []) 0 0xAA false)
     (bytes 14 0 (0x05 ∷ 0x00 ∷ 0xAA ∷ 0xAA ∷ 0x10 ∷ 0x11 ∷ 0x12 ∷ 0x13 ∷ 0x14 ∷ 0x01 ∷ 0x00 ∷ 0xAA ∷ 0xAA ∷ 0x20 ∷ []) 2)
     ∷ example (usb-reads U2 (0x05 ∷ 0x00 ∷ 0xAA ∷ 0xAA ∷ 0x10 ∷ 0x11 ∷ 0x12 ∷ 0x13 ∷ []) fresh) (unread 5 0 12)
-    ∷ example (flexray-writes R (0xFF ∷ []) (1 ∷ []) 0xEE) (bytes 4 0 (0x07 ∷ 0x01 ∷ 0xFF ∷ 0x00 ∷ []) 12)
-    ∷ example (flexray-writes R (0x01 ∷ 0x02 ∷ 0xFF ∷ []) (2 ∷ 1 ∷ []) 0xEE)
+    ∷ example (flexray-writes R (0xFF ∷ []) (1 ∷ []) 0 0xEE) (bytes 4 0 (0x07 ∷ 0x01 ∷ 0xFF ∷ 0x00 ∷ []) 12)
+    ∷ example (flexray-writes R (0x01 ∷ 0x02 ∷ 0xFF ∷ []) (2 ∷ 1 ∷ []) 0 0xEE)
     (bytes 8 0 (0x07 ∷ 0x02 ∷ 0x01 ∷ 0x02 ∷ 0xEE ∷ 0x01 ∷ 0xFF ∷ 0x00 ∷ []) 8)
-    ∷ example (flexray-reads R (0x07 ∷ 0x01 ∷ 0xFF ∷ 0xEE ∷ [])) (unread 5 3 12)
-    ∷ example (flexray-writes R0 (0xFF ∷ 0x00 ∷ []) (2 ∷ []) 0xEE) (bytes 4 0 (0x07 ∷ 0xFF ∷ 0x00 ∷ 0xEE ∷ []) 12)
-    ∷ example (flexray-reads R0 (0x07 ∷ 0xFF ∷ 0x00 ∷ 0xEE ∷ [])) (rows 1 fresh (1 ∷ 3 ∷ 0 ∷ 0 ∷ 1 ∷ []) 7)
+    ∷ example (flexray-reads R (0x07 ∷ 0x01 ∷ 0xFF ∷ 0xEE ∷ []) fresh) (unread 5 3 12)
+    ∷ example (flexray-writes R0 (0xFF ∷ 0x00 ∷ []) (2 ∷ []) 0 0xEE) (bytes 4 0 (0x07 ∷ 0xFF ∷ 0x00 ∷ 0xEE ∷ []) 12)
+    ∷ example (flexray-reads R0 (0x07 ∷ 0xFF ∷ 0x00 ∷ 0xEE ∷ []) fresh) (rows 1 fresh (1 ∷ 3 ∷ 0 ∷ 0 ∷ 1 ∷ []) 7)
     ∷ []
 
 pub starred : map (λ x. x .gives) examples ≡ map (λ x. x .is) examples
