@@ -1,5 +1,5 @@
 -- Programs that must not get through (document 01, 'How tight the contracts are'). A program here is any function from inputs to an answer and what it
--- leaves of what was lent; if it meets the contract, the starred examples show what it is not.
+-- leaves of what was lent; if it meets the contract, the starred examples, and a frame of FlexrayLimits for its gap, show what it is not.
 use Prim.Native.Nat.{ℕ, _<_}
 use native.Mathlib.Omega.{arith}
 use mathlib.Core.Path.{_≡_, sym, ap, _∙_}
@@ -21,6 +21,7 @@ use Rattle.flexray.specs.declared.Setting as FlexRaySetting
 use Rattle.flexray.specs.Reading as FlexRayReading
 use Rattle.flexray.specs.Writing as FlexRayWriting
 use Rattle.promises.proofs.Starred.{U1, R, R0, twelve, two, spare, expecting, Result, Result.read, Result.wrote, examples, starred}
+use Rattle.promises.proofs.FlexrayLimits.{frame, frames, flexray-limits}
 
 -- the line of a number in the table of examples
 none : Result
@@ -28,6 +29,10 @@ none = read (record { answer = Reads.Refused 0 0; lent = [] })
 
 line : (i : ℕ) → getD (map (λ x. x .gives) examples) i none ≡ getD (map (λ x. x .is) examples) i none
 line i = ap (λ l. getD l i none) starred
+
+-- how the frame of a number is read, in the table of frames
+frame-line : (i : ℕ) → getD (map (λ x. x .gives) frames) i (none, none) .1 ≡ getD (map (λ x. x .is) frames) i (none, none) .1
+frame-line i = ap (λ (l : List (Result × Result)). getD l i (none, none) .1) (flexray-limits .0)
 
 same-read : {a b : Answer Reading} → read a ≡ read b → a ≡ b
 same-read e = cc
@@ -141,6 +146,13 @@ module _ (f : FlexRaySetting.Setting → List ℕ → Counter → List ℕ → A
   -- it does not leave every table as it was
   pub frame-idle : ((t : List ℕ) → framing R0 t .lent ≡ spare 12) → ⊥
   frame-idle h = omega (arith, starts (sym (frame-gives .1) ∙ h (0x07 ∷ 0xFF ∷ 0x00 ∷ 0xEE ∷ [])))
+
+  -- its gaps are not made up: with 250 expected, a frame of header 3 with counter 255 has gap 5
+  pub frame-gap : getD (f (frame 3 2) (0x07 ∷ 0xFF ∷ 0xFE ∷ 0x01 ∷ []) (expecting 250) (spare 12) .lent) 3 0 ≡ 5
+  unfolding frames
+  frame-gap =
+      ap (λ l. getD l 3 0)
+      (one-result (meets (frame 3 2) (0x07 ∷ 0xFF ∷ 0xFE ∷ 0x01 ∷ []) (expecting 250) (spare 12)) (gives (same-read (frame-line 2))) .1)
 
 ---- The FlexRay writer ---------------------------------------------------------------------------------------------------------
 
