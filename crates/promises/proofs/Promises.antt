@@ -1,8 +1,8 @@
 -- The promises: open this file first. It goes through the three demands, for USB and for FlexRay. Each theorem is about any answer r that the contract of
 -- a function allows, and about the lent table or output as the call then leaves it (`left`). Tied shows that these are the functions' own contracts, as
 -- the code states them, and OneResult that each allows one answer only.
--- What is cited here says more: Usb and Flexray for each transport, Call and Numbers for what both share, Starred and Limits for the examples, ShutOut
--- for programs shut out.
+-- What is cited here says more: Usb and Flexray for each transport, Call and Numbers for what both share, Starred and the tables of limits for the
+-- examples, ShutOut for programs shut out.
 use Prim.Native.Nat.{ℕ, _+_, _*_, _%_, _^_, _<_, _≤_}
 use native.Mathlib.Omega.{arith}
 use mathlib.Core.Path.{_≡_, refl}
@@ -49,6 +49,7 @@ use Rattle.promises.proofs.Call.{IsRows}
 use Rattle.promises.proofs.Numbers.{Numbers, lent-numbers, c-reads, c-writes}
 use Rattle.promises.proofs.Usb as Usb
 use Rattle.promises.proofs.Flexray as Flexray
+use Rattle.promises.proofs.Limits as Limits
 use Rattle.promises.proofs.Starred as Starred
 
 ---- Demand 1: every call is answered, a bad one is refused by number and place, and a refused call changes nothing ----------------
@@ -227,6 +228,10 @@ module _ (t : List ℕ) (p n : ℕ) {x : CheckResult} (call : x ≡ checkResult 
 -- the starred examples, and the others: what is given is what document 01 says, in one table
 pub starred : map (λ x. x .gives) Starred.examples ≡ map (λ x. x .is) Starred.examples
 starred = Starred.starred
+
+-- and each bound at the bound and one past it, each header, kind and refusal, in tables like it: Limits, UsbLimits and FlexrayLimits
+pub bounded : map (λ x. x .gives) Limits.bounds ≡ map (λ x. x .is) Limits.bounds
+bounded = Limits.bounded .0
 
 -- any two results that a contract allows are equal; OneResult says it of each function's own contract
 pub one-result : {E : Type 0} {a : Answer E} {r u : E} {left past : List ℕ} → Gives a r left → Gives a u past → (r ≡ u) × (left ≡ past)
