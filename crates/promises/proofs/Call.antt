@@ -1,7 +1,7 @@
 -- What is promised of a call, in document 01's words and once for both transports. Usb and Flexray say it of the functions: of any answer that a
 -- contract allows, and of the lent table or output as the call then leaves it.
 use Prim.Native.Nat.{ℕ, _+_, _*_, _%_, _^_, _<_, _≤_}
-use mathlib.Core.Path.{_≡_, refl, sym, ap, _∙_}
+use mathlib.Core.Path.{_≡_, refl, sym, _∙_}
 use mathlib.Core.Bool.{true}
 use mathlib.Core.Logic.{_↔_}
 use mathlib.Core.List.{List, map}
@@ -56,55 +56,70 @@ module _ {E C : Type 0} {refuse : ℕ → ℕ → E} {accept : ℕ → C → E} 
 abbrev pub IsRows : Reading → Type 0
 IsRows r = (k : ℕ) × (d : Counter) × (r ≡ R.Rows k d)
 
--- A read of t into the table rows, that leaves the table at `left`. `Whole ms` says that t holds the messages ms; their rows are `tab ms`
-module _ (Whole : List Msg → Type 0) (tab : List Msg → List ℕ) (t rows left : List ℕ) where
-  -- it gives the messages ms
-  pub record Given (ms : List Msg) : Type 0 where
-    -- their rows stand at the front of the table, and those behind are unchanged
-    pub front : take (5 * length ms) left ≡ tab ms
-    pub past : drop (5 * length ms) left ≡ drop (5 * length ms) rows
-    -- a row's part shows exactly its packet's bytes
-    pub shown : Each (Shown t) ms
-    -- no other list makes up the input
-    pub only : (ns : List Msg) → Whole ns → ns ≡ ms
+-- What document 01 says of a read, of an input into a table
+pub record Rules : Type 1 where
+  pub input : List ℕ
+  pub table : List ℕ
+  -- its table of refusals gives n at p
+  pub Refusal : (n p : ℕ) → Type 0
+  -- neither the setting nor the state is refused
+  pub Fine : Type 0
+  -- the input holds the messages ms; their rows; and the state that they leave
+  pub Whole : List Msg → Type 0
+  pub rows : List Msg → List ℕ
+  pub state : List Msg → Counter
 
--- The same, that answers r. `Refusal` and what is accepted are as above: `Fine` says that neither the setting nor the state is refused, and the messages
--- ms leave the state `state ms`
-module _ (Refusal : ℕ → ℕ → Type 0) (Fine : Type 0) (Whole : List Msg → Type 0) (tab : List Msg → List ℕ) (state : List Msg → Counter)
-    (t rows : List ℕ) where
+module _ (S : Rules) where
+  -- the table has room for the rows of the messages ms
+  abbrev pub Room : List Msg → Type 0
+  Room ms = 5 * length ms ≤ length (S .table)
+
+  -- nothing is refused, with k rows, and the state d is left
+  abbrev pub Accepts : (k : ℕ) (d : Counter) → Type 0
+  Accepts = Accepted (S .Fine) (S .Whole) (S .state) (length (S .table))
+
+  -- a read that leaves the table at `left` gives the messages ms
+  pub record Given (left : List ℕ) (ms : List Msg) : Type 0 where
+    -- their rows stand at the front of the table, and those behind are unchanged
+    pub front : take (5 * length ms) left ≡ S .rows ms
+    pub past : drop (5 * length ms) left ≡ drop (5 * length ms) (S .table)
+    -- a row's part shows exactly its packet's bytes
+    pub shown : Each (Shown (S .input)) ms
+    -- no other list makes up the input
+    pub only : (ns : List Msg) → S .Whole ns → ns ≡ ms
+
+  -- a read that answers r, and leaves the table at `left`
   pub record Read (r : Reading) (left : List ℕ) : Type 0 where
-    pub answers : Answers R.Refused R.Rows Refusal (Accepted Fine Whole state (length rows)) rows r left
+    pub answers : Answers R.Refused R.Rows (S .Refusal) Accepts (S .table) r left
     -- Demand 3: it is accepted exactly if some list of messages makes up the input and the table has room, at most one list does, and it gives that list
-    pub demand : IsRows r ↔ ((ms : List Msg) × Fine × Whole ms × (5 * length ms ≤ length rows))
-    pub gives : (ms : List Msg) → Fine → Whole ms → 5 * length ms ≤ length rows
-        → (r ≡ R.Rows (length ms) (state ms)) × Given Whole tab t rows left ms
+    pub demand : IsRows r ↔ ((ms : List Msg) × S .Fine × S .Whole ms × Room ms)
+    pub gives : (ms : List Msg) → S .Fine → S .Whole ms → Room ms → (r ≡ R.Rows (length ms) (S .state ms)) × Given left ms
 
 -- it keeps all that where the laws of its transport hold
-module _ {Refusal : ℕ → ℕ → Type 0} {Fine : Type 0} {Whole : List Msg → Type 0} {tab : List Msg → List ℕ} {state : List Msg → Counter}
-    {t : List ℕ} {c : Counter} {rows : List ℕ} {a : Answer Reading}
-    (refuses : (n p : ℕ) → (a .answer ≡ R.Refused n p) ↔ Refusal n p) (number : (n p : ℕ) → Refusal n p → (0 < n) × (n ≤ 8))
-    (keeps : 0 < readNumber (a .answer) → (a .lent ≡ rows) × (readState c (a .answer) ≡ c))
-    (accepts : (k : ℕ) (d : Counter) → (a .answer ≡ R.Rows k d) ↔ Accepted Fine Whole state (length rows) k d)
-    (put : (ms : List Msg) → Fine → Whole ms → 5 * length ms ≤ length rows
-    → (take (5 * length ms) (a .lent) ≡ tab ms) × (drop (5 * length ms) (a .lent) ≡ drop (5 * length ms) rows))
-    (unique : (ms ns : List Msg) → Whole ms → Whole ns → ms ≡ ns) (shows : (ms : List Msg) → Whole ms → Each (Shown t) ms) where
-  pub read-promised : {r : Reading} {left : List ℕ} → Gives a r left → Read Refusal Fine Whole tab state t rows r left
+module _ {S : Rules} {c : Counter} {a : Answer Reading}
+    (refuses : (n p : ℕ) → (a .answer ≡ R.Refused n p) ↔ S .Refusal n p) (number : (n p : ℕ) → S .Refusal n p → (0 < n) × (n ≤ 8))
+    (keeps : 0 < readNumber (a .answer) → (a .lent ≡ S .table) × (readState c (a .answer) ≡ c))
+    (accepts : (k : ℕ) (d : Counter) → (a .answer ≡ R.Rows k d) ↔ Accepts S k d)
+    (put : (ms : List Msg) → S .Fine → S .Whole ms → Room S ms
+    → (take (5 * length ms) (a .lent) ≡ S .rows ms) × (drop (5 * length ms) (a .lent) ≡ drop (5 * length ms) (S .table)))
+    (unique : (ms ns : List Msg) → S .Whole ms → S .Whole ns → ms ≡ ns) (shows : (ms : List Msg) → S .Whole ms → Each (Shown (S .input)) ms) where
+  pub read-promised : {r : Reading} {left : List ℕ} → Gives a r left → Read S r left
   read-promised {r} {left} g =
       record {
         answers = answers-promised refuses number (λ n p l e. keeps (rw e l) .0) accepts g;
-        demand = (from, λ x. (length (x .0), state (x .0), told (x .0) (x .1) (x .2) (x .3)));
+        demand = (from, λ x. (length (x .0), S .state (x .0), told (x .0) (x .1) (x .2) (x .3)));
         gives = λ ms f x l. (told ms f x l, given ms f x l);
       }
     where
-      from : IsRows r → (ms : List Msg) × Fine × Whole ms × (5 * length ms ≤ length rows)
+      from : IsRows r → (ms : List Msg) × S .Fine × S .Whole ms × Room S ms
       from x = let y = exactly g (accepts (x .0) (x .1)) .0 (x .2) in (y .messages, y .fine, y .whole, y .room)
 
-      told : (ms : List Msg) → Fine → Whole ms → 5 * length ms ≤ length rows → r ≡ R.Rows (length ms) (state ms)
+      told : (ms : List Msg) → S .Fine → S .Whole ms → Room S ms → r ≡ R.Rows (length ms) (S .state ms)
       told ms f x l =
-          exactly g (accepts (length ms) (state ms)) .1
+          exactly g (accepts (length ms) (S .state ms)) .1
           (record { fine = f; messages = ms; whole = x; room = l; count = refl; left = refl })
 
-      given : (ms : List Msg) → Fine → Whole ms → 5 * length ms ≤ length rows → Given Whole tab t rows left ms
+      given : (ms : List Msg) → S .Fine → S .Whole ms → Room S ms → Given S left ms
       given ms f x l =
           record {
             front = rw (g .lent) (put ms f x l .0);

@@ -1,6 +1,6 @@
 -- What is promised of a call whose caller sees document 01's numbers: one from C, or one that lends the state. The answer behind the numbers keeps what
 -- Call promises, and so do they.
-use Prim.Native.Nat.{ℕ, _*_, _<_, _≤_}
+use Prim.Native.Nat.{ℕ, _<_, _≤_}
 use native.Mathlib.Omega.{arith}
 use mathlib.Core.Path.{_≡_, refl, sym, ap, _∙_}
 use mathlib.Core.Logic.{_↔_, _⊎_, inl, inr}
@@ -12,13 +12,13 @@ use Rattle.packet.specs.declared.Reading.the-variants as R
 use Rattle.packet.specs.declared.Writing.{Writing}
 use Rattle.packet.specs.declared.Writing.the-variants as W
 use Rattle.packet.specs.Message.{Msg}
-use Rattle.packet.specs.Answer.{Answer, Gives, Accepted, readNumber, readValue, readState, writeNumber, writeValue, writeCounter}
+use Rattle.packet.specs.Answer.{Answer, Gives, readNumber, readValue, readState, writeNumber, writeValue, writeCounter}
 use Rattle.lent.specs.declared.Told.{Told}
 use Rattle.lent.specs.Told.{toldOf, toldNumber, toldValue, Tells}
 use Rattle.plumagemud.specs.declared.ReadResult.{ReadResult}
 use Rattle.plumagemud.specs.declared.WriteResult.{WriteResult}
 use Rattle.plumagemud.specs.Result.{Reads, Writes}
-use Rattle.promises.proofs.Call.{Answers, Given, Read}
+use Rattle.promises.proofs.Call.{Answers, Rules, Room, Accepts, Given, Read}
 
 -- How an answer is told in document 01's numbers: its number, 0 where nothing is refused; its value, which is a count or a refusal's place; and the state
 -- or counter that is left of the one given
@@ -134,15 +134,12 @@ module _ {E C : Type 0} {refuse : ℕ → ℕ → E} {accept : ℕ → C → E} 
 ---- Readers --------------------------------------------------------------------------------------------------------------------
 
 -- a read gives the messages ms too, where it is accepted
-pub record ReadNumbers (Refusal : ℕ → ℕ → Type 0) (Fine : Type 0) (Whole : List Msg → Type 0)
-    (tab : List Msg → List ℕ) (state : List Msg → Counter) (t rows : List ℕ) (c : Counter) (n v : ℕ) (d : Counter) (left : List ℕ) : Type 0 where
-  pub numbers : Numbers Refusal (Accepted Fine Whole state (length rows)) rows c n v d left
-  pub gives : (ms : List Msg) → Fine → Whole ms → 5 * length ms ≤ length rows
-      → (n ≡ 0) × (v ≡ length ms) × (d ≡ state ms) × Given Whole tab t rows left ms
+pub record ReadNumbers (S : Rules) (c : Counter) (n v : ℕ) (d : Counter) (left : List ℕ) : Type 0 where
+  pub numbers : Numbers (S .Refusal) (Accepts S) (S .table) c n v d left
+  pub gives : (ms : List Msg) → S .Fine → S .Whole ms → Room S ms → (n ≡ 0) × (v ≡ length ms) × (d ≡ S .state ms) × Given S left ms
 
-pub read-numbers : {Refusal : ℕ → ℕ → Type 0} {Fine : Type 0} {Whole : List Msg → Type 0} {tab : List Msg → List ℕ} {state : List Msg → Counter}
-    {t rows : List ℕ} {a : Answer Reading} {c : Counter} {n v : ℕ} {d : Counter} {left : List ℕ} → InNumbers reading a c n v d left
-    → Read Refusal Fine Whole tab state t rows (a .answer) left → ReadNumbers Refusal Fine Whole tab state t rows c n v d left
+pub read-numbers : {S : Rules} {a : Answer Reading} {c : Counter} {n v : ℕ} {d : Counter} {left : List ℕ} → InNumbers reading a c n v d left
+    → Read S (a .answer) left → ReadNumbers S c n v d left
 read-numbers g h =
     record {
       numbers = numbers-promised g (h .answers);

@@ -45,7 +45,7 @@ use Rattle.plumagemud.specs.declared.ReadResult.{ReadResult}
 use Rattle.plumagemud.specs.declared.WriteResult.{WriteResult}
 use Rattle.plumagemud.specs.Result.{checkResult, Reads, Writes}
 use Rattle.promises.proofs.Call as Call
-use Rattle.promises.proofs.Call.{IsRows}
+use Rattle.promises.proofs.Call.{IsRows, Given}
 use Rattle.promises.proofs.Numbers.{Numbers, lent-numbers, c-reads, c-writes}
 use Rattle.promises.proofs.Usb as Usb
 use Rattle.promises.proofs.Flexray as Flexray
@@ -157,20 +157,24 @@ module _ (s : FlexRaySetting.Setting) (bs ns : List ℕ) (c fill : ℕ) (out : L
 
 ---- Demand 3: a reader accepts exactly if some list makes up the input by the sender's layout rules, at most one list does, and it gives that list
 
-module _ (s : UsbSetting.Setting) (t : List ℕ) (c : Counter) (rows : List ℕ) {r : Reading} {left : List ℕ} (call : Usb.Reads s t c rows r left) where
+-- `Given`: the rows of ms stand at the front of the table, those behind are unchanged, each part shows its packet, and no other list makes up the input
+module _ (s : UsbSetting.Setting) (t : List ℕ) (c : Counter) (rows : List ℕ) {r : Reading} {left : List ℕ}
+    (call : Usb.Reads s t c rows r left) where
   pub usb-accepts : IsRows r ↔ ((ms : List Msg) × UsbRefusal.Fine s c × Transfer s ms t × (5 * length ms ≤ length rows))
-  usb-accepts = Usb.demand-3 s t c rows call .0
+  usb-accepts = Usb.reads s t c rows call .demand
 
-  pub usb-gives : (ms : List Msg) → UsbRefusal.Fine s c → Transfer s ms t → 5 * length ms ≤ length rows → Usb.Gave s t c rows r left ms
-  usb-gives = Usb.demand-3 s t c rows call .1
+  pub usb-gives : (ms : List Msg) → UsbRefusal.Fine s c → Transfer s ms t → 5 * length ms ≤ length rows
+      → (r ≡ R.Rows (length ms) (behind (UsbSize.W s) c ms)) × Given (Usb.rules s t c rows) left ms
+  usb-gives = Usb.reads s t c rows call .gives
 
 module _ (s : FlexRaySetting.Setting) (t : List ℕ) (c : Counter) (rows : List ℕ) {r : Reading} {left : List ℕ}
     (call : Flexray.Reads s t c rows r left) where
   pub flexray-accepts : IsRows r ↔ ((ms : List Msg) × FlexRayRefusal.Fine s c × Frame s ms t × (5 * length ms ≤ length rows))
-  flexray-accepts = Flexray.demand-3 s t c rows call .0
+  flexray-accepts = Flexray.reads s t c rows call .demand
 
-  pub flexray-gives : (ms : List Msg) → FlexRayRefusal.Fine s c → Frame s ms t → 5 * length ms ≤ length rows → Flexray.Gave s t c rows r left ms
-  flexray-gives = Flexray.demand-3 s t c rows call .1
+  pub flexray-gives : (ms : List Msg) → FlexRayRefusal.Fine s c → Frame s ms t → 5 * length ms ≤ length rows
+      → (r ≡ R.Rows (length ms) (frameState (FlexRaySize.W s) c ms)) × Given (Flexray.rules s t c rows) left ms
+  flexray-gives = Flexray.reads s t c rows call .gives
 
 ---- In numbers: what a C caller gets, and one that lends the state -----------------------------------------------------------------
 
