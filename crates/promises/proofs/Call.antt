@@ -14,10 +14,11 @@ use Rattle.packet.specs.declared.Writing.the-variants as W
 use Rattle.packet.specs.Message.{Msg}
 use Rattle.packet.specs.Counter.{holds, later}
 use Rattle.packet.specs.Packets.{joined, packets, Matched}
-use Rattle.packet.specs.Answer.{Answer, Gives, Accepted, readNumber, readState}
+use Rattle.packet.specs.Answer.{Answer, Gives, Accepted, readNumber, readValue, readState}
 use Rattle.packet.proofs.AnswerLaws.{exactly}
 use Rattle.packet.proofs.CounterLaws.{later-is, later-without, held}
 use Rattle.packet.proofs.PacketsLaws.{Each, packets-lengths, packets-joined}
+use Rattle.packet.proofs.ReaderLaws.{Alike}
 use Rattle.packet.proofs.SeenLaws.{Shown}
 
 -- every call is answered: no entry point asks anything (Tied has a line for each), and a contract's definition gives an answer for every input
@@ -127,6 +128,11 @@ module _ {S : Rules} {c : Counter} {a : Answer Reading}
             shown = shows ms x;
             only = λ ns y. unique ns ms y x;
           }
+
+-- two reads whose answers agree but for the state tell the same number, the same place or count, and leave the same table
+pub same-told : {a b : Answer Reading} → Alike a b → {r u : Reading} {left past : List ℕ} → Gives a r left → Gives b u past
+    → (readNumber r ≡ readNumber u) × (readValue r ≡ readValue u) × (left ≡ past)
+same-told same g h = (rw (g .answer, h .answer) (same .number), rw (g .answer, h .answer) (same .value), rw (g .lent, h .lent) (same .lent))
 
 ---- Writers --------------------------------------------------------------------------------------------------------------------
 
