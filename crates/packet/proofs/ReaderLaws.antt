@@ -19,11 +19,6 @@ use Rattle.packet.proofs.AnswerLaws.{Unsettled, Settled, Apart, refuses
 apart-read : {state : List Msg → Counter} → Apart R.Refused (λ ms. R.Rows (length ms) (state ms))
 apart-read = record { number = λ e. cc; place = λ e. cc; never = λ e. let z : _≡_ {A = ℕ} 0 1 = cc in omega arith }
 
--- the number and value of an answer tell a refusal
-pub read-told : (a : Reading) {n p : ℕ} → 0 < n → readNumber a ≡ n → readValue a ≡ p → a ≡ R.Refused n p
-read-told (R.Rows k d) h e f = absurd (omega arith)
-read-told (R.Refused m q) h e f = rw (e, f)
-
 -- why a reader refuses with n at p
 pub data Unread (numbers : ℕ) (held : Bool) (o : Out Msg) : ℕ → ℕ → Type 0 where
   over : held ≡ false → Unread numbers held o 1 0
