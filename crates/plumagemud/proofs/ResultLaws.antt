@@ -2,15 +2,13 @@
 use Prim.Native.Nat.{ℕ}
 use mathlib.Core.Path.{_≡_, sym, ap, _∙_}
 use mathlib.Core.List.{List}
-use Rattle.packet.specs.declared.Checked.{Checked}
 use Rattle.packet.specs.declared.Counter.{Counter}
 use Rattle.packet.specs.declared.Reading.{Reading}
 use Rattle.packet.specs.declared.Writing.{Writing}
 use Rattle.packet.specs.Answer.{Answer, Gives}
 use Rattle.plumagemud.specs.declared.ReadResult.{ReadResult}
 use Rattle.plumagemud.specs.declared.WriteResult.{WriteResult}
-use Rattle.plumagemud.specs.declared.CheckResult.{CheckResult}
-use Rattle.plumagemud.specs.Result.{readResult, writeResult, checkResult, Reads, Writes}
+use Rattle.plumagemud.specs.Result.{readResult, writeResult, Reads, Writes}
 
 module _ {a : Answer Reading} {c : Counter} where
   pub reads-so : {r : Reading} {x : ReadResult} {left : List ℕ} → Gives a r left → x ≡ readResult c r → Reads a c x left
@@ -25,6 +23,3 @@ module _ {a : Answer Writing} {c : ℕ} where
 
   pub one-written : {x y : WriteResult} {left past : List ℕ} → Writes a c x left → Writes a c y past → (x ≡ y) × (left ≡ past)
   one-written g h = (g .result ∙ sym (h .result), g .out ∙ sym (h .out))
-
-pub one-checked : (a : Checked) {x y : CheckResult} → x ≡ checkResult a → y ≡ checkResult a → x ≡ y
-one-checked a g h = g ∙ sym h
