@@ -97,12 +97,24 @@ module _ {E C : Type 0} {refuse : ℕ → ℕ → E} {accept : ℕ → C → E} 
     abbrev Either : Type 0
     Either = ((m : ℕ) × (p : ℕ) × (a .answer ≡ refuse m p)) ⊎ ((k : ℕ) × (e : C) × (a .answer ≡ accept k e))
 
+    -- number 0 tells an acceptance, with that value and with d left
+    accepted-answer : n ≡ 0 → a .answer ≡ accept v d
+    accepted-answer z = at (T .either (a .answer))
+      where
+        at : Either → a .answer ≡ accept v d
+        at (inl (i, q, y)) = absurd (omega (arith, of-refusal y .0, h .refusal i q y .0))
+        at (inr (i, f, y)) = let (o, count, counter) = of-acceptance y in rw (count, counter) y
+
+    -- so what is promised of a call that answers so is promised of this one
+    pub accepted-gives : n ≡ 0 → Gives a (accept v d) left
+    accepted-gives z = record { answer = sym (accepted-answer z); lent = g .lent }
+
     pub numbers-promised : Numbers Refusal Accept lent c n v d left
     numbers-promised =
         record {
           refused = λ m p l. (λ x. h .refused m p .0 (refuses m p l x (T .either (a .answer))), λ y. told (of-refusal (h .refused m p .1 y)));
           refusal = unchanged (T .either (a .answer));
-          accepted = λ k e. (λ x. h .accepted k e .0 (accepts k e x (T .either (a .answer))), λ y. of-acceptance (h .accepted k e .1 y));
+          accepted = λ k e. (accepts k e, λ y. of-acceptance (h .accepted k e .1 y));
         }
       where
         told : {m p : ℕ} → (n ≡ m) × (v ≡ p) × (d ≡ c) → (n ≡ m) × (v ≡ p)
@@ -123,13 +135,10 @@ module _ {E C : Type 0} {refuse : ℕ → ℕ → E} {accept : ℕ → C → E} 
             (omega arith, same, o)
         unchanged (inr (k, e, y)) l = absurd (omega (arith, of-acceptance y .0))
 
-        accepts : (k : ℕ) (e : C) → (n ≡ 0) × (v ≡ k) × (d ≡ e) → Either → a .answer ≡ accept k e
-        accepts k e x (inl (i, q, y)) = absurd (omega (arith, of-refusal y .0, h .refusal i q y .0, x .0))
-        accepts k e x (inr (i, f, y)) =
-            let (o, z, w) = of-acceptance y in
-            let count : i ≡ k = sym z ∙ x .1 in
-            let counter : f ≡ e = sym w ∙ x .2 in
-            rw (← count, ← counter) y
+        accepts : (k : ℕ) (e : C) → (n ≡ 0) × (v ≡ k) × (d ≡ e) → Accept k e
+        accepts k e x =
+            let (zero, count, counter) = x in
+            h .accepted k e .0 (rw (← count, ← counter) (accepted-answer zero))
 
 ---- Readers --------------------------------------------------------------------------------------------------------------------
 

@@ -6,11 +6,11 @@
 use Prim.Native.Nat.{ℕ, _+_, _*_, _%_, _^_, _<_, _≤_}
 use native.Mathlib.Omega.{arith}
 use mathlib.Core.Path.{_≡_, refl}
-use mathlib.Core.Bool.{Bool, true}
+use mathlib.Core.Bool.{Bool, true, or-true}
 use mathlib.Core.Logic.{_↔_}
 use mathlib.Core.List.{List, [], map}
 use lib.ListN.{length, take, drop}
-use borrow.Author.Tests.{le-leb}
+use borrow.Author.Tests.{le-leb, ne-eqb}
 use Rattle.packet.specs.declared.Counter.{Counter}
 use Rattle.packet.specs.declared.Reading.{Reading}
 use Rattle.packet.specs.declared.Reading.the-variants as R
@@ -18,7 +18,7 @@ use Rattle.packet.specs.declared.Writing.{Writing}
 use Rattle.packet.specs.declared.Writing.the-variants as W
 use Rattle.packet.specs.declared.Checked.{Checked}
 use Rattle.packet.specs.Answer.{Answer, Gives}
-use Rattle.packet.specs.Counter.{valid, difference}
+use Rattle.packet.specs.Counter.{fresh, valid, gap}
 use Rattle.packet.specs.Message.{Msg}
 use Rattle.packet.specs.Part.{partOf, checkOf, checkNumber, checkPlace}
 use Rattle.packet.specs.Row.{table, behind}
@@ -46,11 +46,13 @@ use Rattle.plumagemud.specs.declared.WriteResult.{WriteResult}
 use Rattle.plumagemud.specs.Result.{checkResult, Reads, Writes}
 use Rattle.promises.proofs.Call as Call
 use Rattle.promises.proofs.Call.{IsRows, Given}
-use Rattle.promises.proofs.Numbers.{Numbers, lent-numbers, c-reads, c-writes}
+use Rattle.promises.proofs.Numbers.{Numbers, ReadNumbers, lent-numbers, c-reads, c-writes}
 use Rattle.promises.proofs.Usb as Usb
 use Rattle.promises.proofs.Flexray as Flexray
+use Rattle.promises.proofs.FlexrayLimits as FlexrayLimits
 use Rattle.promises.proofs.Limits as Limits
 use Rattle.promises.proofs.Starred as Starred
+use Rattle.promises.proofs.UsbLimits as UsbLimits
 
 ---- Demand 1: every call is answered, a bad one is refused by number and place, and a refused call changes nothing ----------------
 
@@ -119,9 +121,18 @@ module _ (t : List ℕ) (p n : ℕ) {r : Checked} (check : r ≡ checkOf t p n) 
 
 ---- Demand 2: written bytes are those of document 01, gaps are modulo the counter's size, what was written reads back ------------
 
--- the gap of a received counter c is the one number below the counter's size that leads to it from the expected counter e
-pub gap-modulo : (w c e r : ℕ) → c < 256 ^ w → e < 256 ^ w → r < 256 ^ w → ((r + e) % 256 ^ w ≡ c) ↔ (r ≡ difference w c e)
-gap-modulo w c e r h l b = (difference-only w c e r (omega arith) b, λ x. rw x (difference-back w c e h (omega arith)))
+-- the gap in the row of a message with counter c, where the state s is known, is the one number below the counter's size that leads from the expected
+-- counter to c; from a fresh state it is 0
+pub gap-modulo : (w : ℕ) (s : Counter) (c r : ℕ) → 0 < w → 0 < s .known → c < 256 ^ w → s .expected < 256 ^ w → r < 256 ^ w
+    → ((r + s .expected) % 256 ^ w ≡ c) ↔ (r ≡ gap w s c)
+unfolding gap
+gap-modulo w s c r v k h l b =
+    rw (ne-eqb w 0 (omega arith), ne-eqb (s .known) 0 (omega arith))
+    (difference-only w c (s .expected) r (omega arith) b, λ x. rw x (difference-back w c (s .expected) h (omega arith)))
+
+pub gap-fresh : (w c : ℕ) → gap w fresh c ≡ 0
+unfolding gap
+gap-fresh w c = simp or-true
 
 -- the bytes are laid out as the packets given, at the front of the output: `Written` has them, the counters and the places
 module _ (s : UsbSetting.Setting) (bs ns : List ℕ) (c fill : ℕ) (full : Bool) (out : List ℕ) {k d : ℕ} {left : List ℕ}
@@ -182,42 +193,49 @@ module _ (s : FlexRaySetting.Setting) (t : List ℕ) (c : Counter) (rows : List 
 --     refused     n is m, a number above 0, and v is p, exactly when document 01's table gives m at p
 --     refusal     where n is not 0 it is at most 8, and nothing is changed: `left` is what was lent, and d is c
 --     accepted    n is 0, v is k and d is e exactly when nothing is refused, with k rows or bytes, and with e behind them
--- A reader's rows are then those of demand 3: `gives` of `reads-in-numbers` in Usb and Flexray.
+-- `ReadNumbers` has these as `numbers`, and demand 3 as `gives`. Where n is 0 the call is one that answers so many rows or bytes (`xcp-usb-rows`,
+-- `xcp-usb-bytes` and their like), so that demands 2 and 3 above hold of it as they stand.
 module _ (s : UsbSetting.Setting) (t : List ℕ) (c : Counter) (rows : List ℕ) where
-  abbrev UsbReadNumbers : (n v : ℕ) → Counter → List ℕ → Type 0
-  UsbReadNumbers = Numbers (UsbRefusal.ReadRefusal s t c (length rows)) (UsbRefusal.ReadAccept s t c (length rows)) rows c
-
   pub usb-lent-numbers : {u : Told} {d : Counter} {left : List ℕ} → Tells (UsbReading.readOf s t c rows) c u d left
-      → UsbReadNumbers (toldNumber u) (toldValue u) d left
-  usb-lent-numbers call = Usb.reads-in-numbers s t c rows (lent-numbers call) .numbers
+      → ReadNumbers (Usb.rules s t c rows) c (toldNumber u) (toldValue u) d left
+  usb-lent-numbers call = Usb.reads-in-numbers s t c rows (lent-numbers call)
 
-  pub xcp-usb-read : {x : ReadResult} {left : List ℕ} → Reads (UsbReading.readOf s t c rows) c x left
-      → UsbReadNumbers (x .number) (x .value) (x .counter) left
-  xcp-usb-read call = Usb.reads-in-numbers s t c rows (c-reads call) .numbers
+  module _ {x : ReadResult} {left : List ℕ} (call : Reads (UsbReading.readOf s t c rows) c x left) where
+    pub xcp-usb-read : ReadNumbers (Usb.rules s t c rows) c (x .number) (x .value) (x .counter) left
+    xcp-usb-read = Usb.reads-in-numbers s t c rows (c-reads call)
 
-pub xcp-usb-write : (s : UsbSetting.Setting) (bs ns : List ℕ) (c fill : ℕ) (full : Bool) (out : List ℕ) {x : WriteResult} {left : List ℕ}
-    → Writes (UsbWriting.writeOf s bs ns c fill full out) c x left
-    → Numbers (UsbRefusal.WriteRefusal s bs ns c fill full (length out)) (UsbRefusal.WriteAccept s bs ns c fill full (length out)) out c
-    (x .number) (x .value) (x .counter) left
-xcp-usb-write s bs ns c fill full out call = Usb.writes-in-numbers s bs ns c fill full out (c-writes call)
+    pub xcp-usb-rows : x .number ≡ 0 → Usb.Reads s t c rows (R.Rows (x .value) (x .counter)) left
+    xcp-usb-rows = Usb.reads-accepted s t c rows (c-reads call)
+
+module _ (s : UsbSetting.Setting) (bs ns : List ℕ) (c fill : ℕ) (full : Bool) (out : List ℕ) {x : WriteResult} {left : List ℕ}
+    (call : Writes (UsbWriting.writeOf s bs ns c fill full out) c x left) where
+  pub xcp-usb-write : Numbers (UsbRefusal.WriteRefusal s bs ns c fill full (length out)) (UsbRefusal.WriteAccept s bs ns c fill full (length out)) out c
+      (x .number) (x .value) (x .counter) left
+  xcp-usb-write = Usb.writes-in-numbers s bs ns c fill full out (c-writes call)
+
+  pub xcp-usb-bytes : x .number ≡ 0 → Usb.Writes s bs ns c fill full out (W.Bytes (x .value) (x .counter)) left
+  xcp-usb-bytes = Usb.writes-accepted s bs ns c fill full out (c-writes call)
 
 module _ (s : FlexRaySetting.Setting) (t : List ℕ) (c : Counter) (rows : List ℕ) where
-  abbrev FlexRayReadNumbers : (n v : ℕ) → Counter → List ℕ → Type 0
-  FlexRayReadNumbers = Numbers (FlexRayRefusal.ReadRefusal s t c (length rows)) (FlexRayRefusal.ReadAccept s t c (length rows)) rows c
-
   pub flexray-lent-numbers : {u : Told} {d : Counter} {left : List ℕ} → Tells (FlexRayReading.readOf s t c rows) c u d left
-      → FlexRayReadNumbers (toldNumber u) (toldValue u) d left
-  flexray-lent-numbers call = Flexray.reads-in-numbers s t c rows (lent-numbers call) .numbers
+      → ReadNumbers (Flexray.rules s t c rows) c (toldNumber u) (toldValue u) d left
+  flexray-lent-numbers call = Flexray.reads-in-numbers s t c rows (lent-numbers call)
 
-  pub xcp-flexray-read : {x : ReadResult} {left : List ℕ} → Reads (FlexRayReading.readOf s t c rows) c x left
-      → FlexRayReadNumbers (x .number) (x .value) (x .counter) left
-  xcp-flexray-read call = Flexray.reads-in-numbers s t c rows (c-reads call) .numbers
+  module _ {x : ReadResult} {left : List ℕ} (call : Reads (FlexRayReading.readOf s t c rows) c x left) where
+    pub xcp-flexray-read : ReadNumbers (Flexray.rules s t c rows) c (x .number) (x .value) (x .counter) left
+    xcp-flexray-read = Flexray.reads-in-numbers s t c rows (c-reads call)
 
-pub xcp-flexray-write : (s : FlexRaySetting.Setting) (bs ns : List ℕ) (c fill : ℕ) (out : List ℕ) {x : WriteResult} {left : List ℕ}
-    → Writes (FlexRayWriting.writeOf s bs ns c fill out) c x left
-    → Numbers (FlexRayRefusal.WriteRefusal s bs ns c fill (length out)) (FlexRayRefusal.WriteAccept s bs ns c fill (length out)) out c
-    (x .number) (x .value) (x .counter) left
-xcp-flexray-write s bs ns c fill out call = Flexray.writes-in-numbers s bs ns c fill out (c-writes call)
+    pub xcp-flexray-rows : x .number ≡ 0 → Flexray.Reads s t c rows (R.Rows (x .value) (x .counter)) left
+    xcp-flexray-rows = Flexray.reads-accepted s t c rows (c-reads call)
+
+module _ (s : FlexRaySetting.Setting) (bs ns : List ℕ) (c fill : ℕ) (out : List ℕ) {x : WriteResult} {left : List ℕ}
+    (call : Writes (FlexRayWriting.writeOf s bs ns c fill out) c x left) where
+  pub xcp-flexray-write : Numbers (FlexRayRefusal.WriteRefusal s bs ns c fill (length out)) (FlexRayRefusal.WriteAccept s bs ns c fill (length out)) out c
+      (x .number) (x .value) (x .counter) left
+  xcp-flexray-write = Flexray.writes-in-numbers s bs ns c fill out (c-writes call)
+
+  pub xcp-flexray-bytes : x .number ≡ 0 → Flexray.Writes s bs ns c fill out (W.Bytes (x .value) (x .counter)) left
+  xcp-flexray-bytes = Flexray.writes-accepted s bs ns c fill out (c-writes call)
 
 -- xcp_part_check; xcp_kind has the contract of packet::kind
 module _ (t : List ℕ) (p n : ℕ) {x : CheckResult} (call : x ≡ checkResult (checkOf t p n)) where
@@ -233,9 +251,19 @@ module _ (t : List ℕ) (p n : ℕ) {x : CheckResult} (call : x ≡ checkResult 
 pub starred : map (λ x. x .gives) Starred.examples ≡ map (λ x. x .is) Starred.examples
 starred = Starred.starred
 
--- and each bound at the bound and one past it, each header, kind and refusal, in tables like it: Limits, UsbLimits and FlexrayLimits
-pub bounded : map (λ x. x .gives) Limits.bounds ≡ map (λ x. x .is) Limits.bounds
-bounded = Limits.bounded .0
+-- tables like it: each bound of a setting or counter at the bound and one past it; kinds and parts; headers, packings and frames written and read back; and
+-- refusals with their places
+pub bounded : (map (λ x. x .gives) Limits.bounds ≡ map (λ x. x .is) Limits.bounds)
+    × (map (λ x. x .gives) Limits.numbers ≡ map (λ x. x .is) Limits.numbers)
+bounded = Limits.bounded
+
+pub usb-limits : (map (λ x. x .gives) UsbLimits.transfers ≡ map (λ x. x .is) UsbLimits.transfers)
+    × (map (λ x. x .gives) UsbLimits.calls ≡ map (λ x. x .is) UsbLimits.calls)
+usb-limits = UsbLimits.usb-limits
+
+pub flexray-limits : (map (λ x. x .gives) FlexrayLimits.frames ≡ map (λ x. x .is) FlexrayLimits.frames)
+    × (map (λ x. x .gives) FlexrayLimits.calls ≡ map (λ x. x .is) FlexrayLimits.calls)
+flexray-limits = FlexrayLimits.flexray-limits
 
 -- any two results that a contract allows are equal; OneResult says it of each function's own contract
 pub one-result : {E : Type 0} {a : Answer E} {r u : E} {left past : List ℕ} → Gives a r left → Gives a u past → (r ≡ u) × (left ≡ past)

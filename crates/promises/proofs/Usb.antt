@@ -30,7 +30,7 @@ use Rattle.usb.proofs.WrittenLaws.{placed-packets, placed-counter}
 use Rattle.usb.proofs.FirstLaws.{AtFirst, placed-first, filled-up, empty-none}
 use Rattle.usb.proofs.BoundLaws.{total, stream-bound}
 use Rattle.promises.proofs.Call.{Answers, answers-promised, Rules, Read, read-promised, same-told, Bytes, bytes-promised}
-use Rattle.promises.proofs.Numbers.{reading, writing, InNumbers, behind-numbers, Numbers, numbers-promised, ReadNumbers, read-numbers}
+use Rattle.promises.proofs.Numbers.{reading, writing, InNumbers, behind-numbers, accepted-gives, Numbers, numbers-promised, ReadNumbers, read-numbers}
 
 ---- The reader -----------------------------------------------------------------------------------------------------------------
 
@@ -63,6 +63,11 @@ module _ (s : Setting) (t : List ℕ) (c : Counter) (rows : List ℕ) where
   pub reads-in-numbers : {n v : ℕ} {d : Counter} {left : List ℕ} → InNumbers reading (readOf s t c rows) c n v d left → ReadNumbers rules c n v d left
   reads-in-numbers g = read-numbers g (reads (behind-numbers g))
 
+  -- and number 0 tells that it is accepted
+  pub reads-accepted : {n v : ℕ} {d : Counter} {left : List ℕ} → InNumbers reading (readOf s t c rows) c n v d left → n ≡ 0
+      → Reads (R.Rows v d) left
+  reads-accepted g = accepted-gives g (reads (behind-numbers g) .answers)
+
   -- without CTR the state is not altered
   pub read-unaltered : W s ≡ 0 → {r : Reading} {left : List ℕ} → Reads r left → readState c r ≡ c
   read-unaltered none g = rw (g .answer) (counter-unaltered s t none rows c)
@@ -93,6 +98,10 @@ module _ (s : Setting) (bs ns : List ℕ) (c fill : ℕ) (full : Bool) (out : Li
   pub writes-in-numbers : {n v d : ℕ} {left : List ℕ} → InNumbers writing (writeOf s bs ns c fill full out) c n v d left
       → Numbers (WriteRefusal s bs ns c fill full (length out)) (WriteAccept s bs ns c fill full (length out)) out c n v d left
   writes-in-numbers g = numbers-promised g (writes (behind-numbers g))
+
+  pub writes-accepted : {n v d : ℕ} {left : List ℕ} → InNumbers writing (writeOf s bs ns c fill full out) c n v d left → n ≡ 0
+      → Writes (W.Bytes v d) left
+  writes-accepted g = accepted-gives g (writes (behind-numbers g))
 
   -- the packets that are given, and the messages that come to stand
   abbrev pub given : List (List ℕ)
