@@ -28,10 +28,14 @@ pub among-header : (n a : ℕ)
 unfolding headers
 among-header n a = among-few a (header n .aligns) (all-given (λ h. few (h .aligns)) (header 9) headers n refl refl)
 
--- a further packet starts at a multiple of the alignment, and at the first that leaves a byte between
+-- a further packet starts at a multiple of the alignment, behind at least one byte, and at the first such multiple
 pub start-whole : (a e : ℕ) → 0 < a → start a e % a ≡ 0
 unfolding start
 start-whole a e h = pad-whole a (e + 1) h
+
+pub start-behind : (a e : ℕ) → e < start a e
+unfolding start
+start-behind a e = omega arith
 
 pub start-near : (a e : ℕ) → 0 < a → start a e ≤ e + a
 unfolding start

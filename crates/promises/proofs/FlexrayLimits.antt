@@ -69,6 +69,9 @@ frames =
     ∷ flexray-both (frame 8 4) (0xFE ∷ 0x01 ∷ 0xFC ∷ []) (2 ∷ 1 ∷ []) 255
     (0x07 ∷ 0xFF ∷ 0xEE ∷ 0x02 ∷ 0xFE ∷ 0x01 ∷ 0xEE ∷ 0x01 ∷ 0xFC ∷ 0xEE ∷ []) 0
     (expecting 250) (expecting 0) (4 ∷ 2 ∷ 255 ∷ 5 ∷ 2 ∷ 8 ∷ 1 ∷ 0 ∷ 0 ∷ 4 ∷ [])
+    -- NAX CTR with A 1, a state whose mark is 7, and EV
+    ∷ flexray-both (frame 3 1) (0xFD ∷ 0x01 ∷ []) (2 ∷ []) 0
+    (0x07 ∷ 0x00 ∷ 0xFD ∷ 0x01 ∷ []) 1 (record { known = 7; expected = 255 }) (expecting 1) (2 ∷ 2 ∷ 0 ∷ 1 ∷ 3 ∷ [])
     ∷ []
 
 unfoldable pub calls : List (Example Result)
@@ -87,6 +90,14 @@ calls =
     ∷ example (flexray-reads (short 0 1) (0x07 ∷ 0x01 ∷ 0x02 ∷ 0x03 ∷ 0x04 ∷ 0x05 ∷ 0x06 ∷ 0x07 ∷ 0x08 ∷ 0x09 ∷ []) fresh)
     (unread 8 0 12)
     ∷ example (flexray-reads (short 0 1) (0x07 ∷ 0x01 ∷ 0x02 ∷ 0x03 ∷ 0x04 ∷ 0x05 ∷ 0x06 ∷ []) fresh) (unread 8 0 12)
+    ∷ example (flexray-reads (frame 2 4) (0x07 ∷ 0xEE ∷ 0xEE ∷ 0xEE ∷ []) fresh) (unread 6 0 12)
+    ∷ example (flexray-reads (frame 7 1) (0x07 ∷ 0x00 ∷ []) fresh) (unread 6 0 12)
+    ∷ example (flexray-reads (flexray 7 0 254 0 1) (7 ∷ replicate 253 5) fresh) (rows 1 fresh (1 ∷ 253 ∷ 0 ∷ 0 ∷ 5 ∷ []) 7)
+    ∷ example (flexray-reads (flexray 7 0 254 0 1) (7 ∷ replicate 255 5) fresh) (unread 8 0 12)
+    -- NAX equals the node, 0 and 255 too
+    ∷ example (flexray-reads (flexray 0 0 32 0 1) (0x00 ∷ 0x01 ∷ []) fresh) (rows 1 fresh (1 ∷ 1 ∷ 0 ∷ 0 ∷ 5 ∷ []) 7)
+    ∷ example (flexray-reads (flexray 255 0 32 0 1) (0xFF ∷ 0x01 ∷ []) fresh) (rows 1 fresh (1 ∷ 1 ∷ 0 ∷ 0 ∷ 5 ∷ []) 7)
+    ∷ example (flexray-reads (flexray 255 0 32 0 1) (0x00 ∷ 0x01 ∷ []) fresh) (unread 7 0 12)
     -- the reader refuses: 1, 8, 6 by length, 7, then 6, 5 leftmost, then 4
     ∷ example (flexray-reads (frame 0 2) (0x07 ∷ []) fresh) (unread 1 0 12)
     ∷ example (flexray-reads (frame 3 1) (0x07 ∷ []) (expecting 256)) (unread 1 0 12)
@@ -98,6 +109,13 @@ calls =
     ∷ example (flexray-reads R (0x07 ∷ 0x02 ∷ 0x01 ∷ 0x02 ∷ 0xEE ∷ 0x02 ∷ 0xFF ∷ 0x00 ∷ []) fresh)
     (rows 2 fresh (2 ∷ 2 ∷ 0 ∷ 0 ∷ 5 ∷ 6 ∷ 2 ∷ 0 ∷ 0 ∷ 1 ∷ []) 2)
     ∷ example (flexray-reads R (0x07 ∷ 0x02 ∷ 0x01 ∷ 0x02 ∷ 0xEE ∷ 0x03 ∷ 0xFF ∷ 0x00 ∷ []) fresh) (unread 5 5 12)
+    -- the first LEN, and a later one, in headers 6, 7 and 8
+    ∷ example (flexray-reads (frame 6 4) (0x07 ∷ 0xEE ∷ 0xEE ∷ 0x00 ∷ 0xFF ∷ 0xFF ∷ []) fresh) (unread 6 0 12)
+    ∷ example (flexray-reads (frame 7 1) (0x07 ∷ 0x00 ∷ 0x02 ∷ 0xFF ∷ []) fresh) (unread 5 0 12)
+    ∷ example (flexray-reads (frame 8 4) (0x07 ∷ 0x00 ∷ 0xEE ∷ 0x01 ∷ 0xFF ∷ 0xEE ∷ 0xEE ∷ 0x01 ∷ []) fresh) (unread 5 7 12)
+    -- 8, 7 and 5 before 4
+    ∷ example (read (FlexRayReading.readOf R (0x07 ∷ 0x01 ∷ 0xFF ∷ []) fresh [])) (unread 8 0 0)
+    ∷ example (read (FlexRayReading.readOf R (0x08 ∷ 0x01 ∷ 0xFF ∷ 0x00 ∷ []) fresh [])) (unread 7 0 0)
     ∷ example (read (FlexRayReading.readOf R (0x07 ∷ 0x01 ∷ 0xFF ∷ 0x00 ∷ []) fresh (spare 4))) (unread 4 0 4)
     ∷ example (read (FlexRayReading.readOf R (0x07 ∷ 0x01 ∷ 0xFF ∷ 0x00 ∷ []) fresh (spare 5)))
     (rows 1 fresh (2 ∷ 1 ∷ 0 ∷ 0 ∷ 1 ∷ []) 0)
@@ -108,15 +126,24 @@ calls =
     ∷ example (flexray-writes R (0xFF ∷ []) (0 ∷ []) 0 0xEE) (unwritten 2 0 16)
     ∷ example (flexray-writes R [] [] 0 0xEE) (unwritten 2 0 16)
     ∷ example (flexray-writes R0 [] (0 ∷ 0 ∷ []) 0 0xEE) (unwritten 2 0 16)
+    ∷ example (flexray-writes R (0xFF ∷ []) (2 ∷ []) 0 0xEE) (unwritten 2 0 16)
+    ∷ example (flexray-writes (frame 1 2) (0xFF ∷ 0xFF ∷ []) (1 ∷ 1 ∷ []) 0 0xEE) (unwritten 2 0 16)
+    ∷ example (flexray-writes (frame 2 4) (0xFF ∷ 0xFF ∷ []) (1 ∷ 1 ∷ []) 0 0xEE) (unwritten 2 0 16)
+    ∷ example (flexray-writes (frame 3 1) (0xFF ∷ 0xFF ∷ []) (1 ∷ 1 ∷ []) 0 0xEE) (unwritten 2 0 16)
+    ∷ example (flexray-writes (frame 4 4) (0xFF ∷ 0xFF ∷ []) (1 ∷ 1 ∷ []) 0 0xEE) (unwritten 2 0 16)
     ∷ example (flexray-writes R [] (replicate 4097 0) 0 0xEE) (unwritten 2 0 16)
     ∷ example (flexray-writes R [] (replicate 4096 0) 0 0xEE) (unwritten 3 0 16)
     ∷ example (flexray-writes R (0xFF ∷ []) (1 ∷ 0 ∷ 0 ∷ []) 0 0xEE) (unwritten 3 1 16)
+    ∷ example (flexray-writes R0 [] (0 ∷ []) 0 0xEE) (unwritten 3 0 16)
+    ∷ example (flexray-writes (short 0 1) (replicate 7 5) (7 ∷ []) 0 0xEE) (bytes 8 0 (7 ∷ replicate 7 5) 8)
+    ∷ example (flexray-writes (short 0 1) (replicate 8 5) (8 ∷ []) 0 0xEE) (unwritten 3 0 16)
     ∷ example (flexray-writes (short 5 2) (replicate 6 5) (6 ∷ []) 0 0xEE) (bytes 8 0 (7 ∷ 6 ∷ replicate 6 5) 8)
     ∷ example (flexray-writes (short 5 2) (replicate 7 5) (7 ∷ []) 0 0xEE) (unwritten 3 0 16)
     ∷ example (flexray-writes (short 5 1) (replicate 5 5) (1 ∷ 4 ∷ []) 0 0xEE) (bytes 8 0 (7 ∷ 1 ∷ 5 ∷ 4 ∷ replicate 4 5) 8)
     ∷ example (flexray-writes (short 5 1) (replicate 6 5) (1 ∷ 5 ∷ []) 0 0xEE) (unwritten 3 1 16)
     ∷ example (wrote (FlexRayWriting.writeOf R (0xFF ∷ []) (1 ∷ []) 0 0xEE (spare 3))) (unwritten 4 0 3)
     ∷ example (wrote (FlexRayWriting.writeOf R (0xFF ∷ []) (1 ∷ []) 0 0xEE (spare 4))) (bytes 4 0 (0x07 ∷ 0x01 ∷ 0xFF ∷ 0x00 ∷ []) 0)
+    ∷ example (wrote (FlexRayWriting.writeOf R (0xFF ∷ []) (2 ∷ []) 0 0xEE [])) (unwritten 2 0 0)
     ∷ example (wrote (FlexRayWriting.writeOf R [] (0 ∷ []) 0 0xEE [])) (unwritten 3 0 0)
     ∷ []
 

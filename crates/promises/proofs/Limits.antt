@@ -121,7 +121,7 @@ numbers =
     ∷ example (map (λ b. kindOf 0 (b ∷ 0xFF ∷ [])) (0xFF ∷ 0xFE ∷ 0xFD ∷ 0xFC ∷ 0xFB ∷ 0xC0 ∷ 0x00 ∷ []))
     (1 ∷ 2 ∷ 3 ∷ 4 ∷ 5 ∷ 5 ∷ 5 ∷ [])
     ∷ example (map (λ b. kindOf 1 (b ∷ 0x00 ∷ [])) (0xFF ∷ 0xFC ∷ 0xC0 ∷ 0xBF ∷ 0x00 ∷ [])) (6 ∷ 6 ∷ 6 ∷ 7 ∷ 7 ∷ [])
-    -- a part with no byte, or a direction above 1, has no kind
+    -- a part with no byte, or a direction above 1, has no kind, which is 0 by our own choice
     ∷ example (kindOf 0 [] ∷ kindOf 1 [] ∷ kindOf 2 (0xFF ∷ []) ∷ []) (0 ∷ 0 ∷ 0 ∷ [])
     -- parts of two bytes: the last two, and one that runs past the input; of none: at the end, and behind it
     ∷ example (partOf input 1 2) (0x11 ∷ 0x12 ∷ [])

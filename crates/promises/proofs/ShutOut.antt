@@ -1,5 +1,5 @@
 -- Programs that must not get through (document 01, 'How tight the contracts are'). A program here is any function from inputs to an answer and what it
--- leaves of what was lent; if it meets the contract, the starred examples, and a frame of FlexrayLimits for its gap, show what it is not.
+-- leaves of what was lent; if it meets the contract, the examples of Starred and two frames of FlexrayLimits show what it is not.
 use Prim.Native.Nat.{ℕ, _<_}
 use native.Mathlib.Omega.{arith}
 use mathlib.Core.Path.{_≡_, sym, ap, _∙_}
@@ -129,6 +129,15 @@ module _ (f : FlexRaySetting.Setting → List ℕ → Counter → List ℕ → A
       × (framing R0 (0x07 ∷ 0xFF ∷ 0x00 ∷ 0xEE ∷ []) .lent ≡ 1 ∷ 3 ∷ 0 ∷ 0 ∷ 1 ∷ spare 7)
   unfolding examples
   frame-gives = one-result (meets R0 (0x07 ∷ 0xFF ∷ 0x00 ∷ 0xEE ∷ []) fresh (spare 12)) (gives (same-read (line 21)))
+
+  -- it gives the two packets of a frame: it does not handle the first and invent the second
+  abbrev pair : List ℕ
+  pair = 0x07 ∷ 0x02 ∷ 0xFE ∷ 0x01 ∷ 0x01 ∷ 0xFC ∷ []
+
+  pub frame-both : (f (frame 5 1) pair (expecting 300) (spare 12) .answer ≡ Reads.Rows 2 (expecting 300))
+      × (f (frame 5 1) pair (expecting 300) (spare 12) .lent ≡ 2 ∷ 2 ∷ 0 ∷ 0 ∷ 2 ∷ 5 ∷ 1 ∷ 0 ∷ 0 ∷ 4 ∷ spare 2)
+  unfolding frames
+  frame-both = one-result (meets (frame 5 1) pair (expecting 300) (spare 12)) (gives (same-read (frame-line 4)))
 
   -- it does not refuse everything
   pub frame-refuses : ((t : List ℕ) → 0 < readNumber (framing R0 t .answer)) → ⊥

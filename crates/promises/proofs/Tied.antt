@@ -151,7 +151,7 @@ c-kind x a r e = (tt, λ p. p)
 
 ---- The program ----------------------------------------------------------------------------------------------------------------
 
--- rowtext::report, which asks for a table and an output that are large enough
+-- rowtext::report is no entry point, but what the program prints comes from it. It asks for a table and an output that are large enough, and no more
 pub report : (x : _) (a : _) (r : _) (e : _) → (Report.Asked x a ≡ Prepared (a .1 .1 .0 .now) (a .1 .0 .now))
     × (Report.Post x a r e → Reports (a .1 .1 .0 .now) (programText (a .0 .now)) (e .1 .1 .0 .now) r)
 report x a r e = (refl, λ p. p)

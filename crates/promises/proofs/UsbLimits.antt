@@ -1,10 +1,12 @@
 -- USB as calls, in tables under one proof that is computed: every header's fields, packings, and each refusal with its place and which of two comes
 -- first. Each line is what document 01 says of a call.
-use Prim.Native.Nat.{ℕ}
+use Prim.Native.Nat.{ℕ, _≤_, min}
+use native.Mathlib.Omega.{arith}
 use mathlib.Core.Path.{_≡_, refl}
 use mathlib.Core.Bool.{true, false}
 use mathlib.Core.List.{List, [], _∷_, _++_, map}
 use lib.ListN.{length, replicate}
+use borrow.Author.Tests.{le-ltb, lt-ltb}
 use Rattle.layout.specs.Multiple.{pad}
 use Rattle.layout.specs.Walk.{walk, go, Out.list}
 use Rattle.packet.specs.declared.Counter.{Counter}
@@ -34,6 +36,10 @@ plain h a = usb h 1 a 16 64 0
 -- U1 with data packets of 8 bytes, by the packing
 abbrev small : ℕ → UsbSetting.Setting
 small p = usb 1 p 4 8 64 0
+
+-- a state that is known, with another mark than a reader leaves
+abbrev marked : ℕ → Counter
+marked n = record { known = 7; expected = n }
 
 -- data packets of 8 bytes: [FF] alone with its counter, [01 02 03] with the next, and the first of a message that has 12
 abbrev one : List ℕ
@@ -82,6 +88,12 @@ transfers =
     ∷ usb-both U2 (0x10 ∷ 0x20 ∷ []) (1 ∷ 1 ∷ []) 0
     ((0x01 ∷ 0x00 ∷ 0xEE ∷ 0xEE ∷ 0x10 ∷ 0xEE ∷ 0xEE ∷ 0xEE ∷ []) ++ (0x01 ∷ 0x00 ∷ 0xEE ∷ 0xEE ∷ 0x20 ∷ [])) 0
     fresh fresh (4 ∷ 1 ∷ 0 ∷ 0 ∷ 5 ∷ 12 ∷ 1 ∷ 0 ∷ 0 ∷ 5 ∷ [])
+    -- multiple, with a rest shorter than H; single, with a last data packet that is shorter, a state whose mark is 7, and EV
+    ∷ usb-both (usb 4 1 1 8 64 0) (0xFE ∷ 0x01 ∷ []) (1 ∷ 1 ∷ []) 1
+    ((0x01 ∷ 0x00 ∷ 0x01 ∷ 0x00 ∷ 0xFE ∷ 0xEE ∷ 0xEE ∷ 0xEE ∷ []) ++ (0x01 ∷ 0x00 ∷ 0x02 ∷ 0x00 ∷ 0x01 ∷ [])) 3
+    fresh (expecting 3) (4 ∷ 1 ∷ 1 ∷ 0 ∷ 2 ∷ 12 ∷ 1 ∷ 2 ∷ 0 ∷ 5 ∷ [])
+    ∷ usb-both (small 0) (0xFD ∷ []) (1 ∷ []) 254
+    (0x01 ∷ 0xFE ∷ 0xFD ∷ 0xEE ∷ []) 255 (marked 250) (expecting 255) (2 ∷ 1 ∷ 254 ∷ 4 ∷ 3 ∷ [])
     ∷ []
 
 unfoldable pub calls : List (Example Result)
@@ -91,6 +103,13 @@ calls =
     ++ (0x01 ∷ 0x00 ∷ 0x09 ∷ 0x0A ∷ 0x20 ∷ [])) fresh)
     (rows 2 fresh (4 ∷ 1 ∷ 0 ∷ 0 ∷ 5 ∷ 12 ∷ 1 ∷ 0 ∷ 0 ∷ 5 ∷ []) 2)
     ∷ example (usb-reads U2 (0xFF ∷ 0xFF ∷ 0xFF ∷ []) fresh) (rows 0 fresh [] 12)
+    -- a rest with a zero LEN before a message, streamed; a word LEN of 256, which is X
+    ∷ example (usb-reads U2 ((0x00 ∷ 0x00 ∷ 0x07 ∷ 0x07 ∷ 0x07 ∷ 0x07 ∷ 0x07 ∷ 0x07 ∷ [])
+    ++ (0x01 ∷ 0x00 ∷ 0xAA ∷ 0xAA ∷ 0x20 ∷ [])) fresh)
+    (rows 1 fresh (12 ∷ 1 ∷ 0 ∷ 0 ∷ 5 ∷ []) 7)
+    ∷ example (usb-reads (usb 3 2 1 8 256 0) (0x00 ∷ 0x01 ∷ replicate 256 5) fresh) (rows 1 fresh (2 ∷ 256 ∷ 0 ∷ 0 ∷ 5 ∷ []) 7)
+    -- without CTR the state is left as it was given, whatever its mark
+    ∷ example (usb-reads (plain 0 1) (0x01 ∷ 0xFF ∷ []) (marked 300)) (rows 1 (marked 300) (1 ∷ 1 ∷ 0 ∷ 0 ∷ 1 ∷ []) 7)
     -- from the master
     ∷ example (usb-reads (usb 1 1 4 16 64 1) twelve fresh)
     (rows 2 (expecting 0) (2 ∷ 1 ∷ 254 ∷ 0 ∷ 6 ∷ 6 ∷ 3 ∷ 255 ∷ 0 ∷ 7 ∷ []) 2)
@@ -124,14 +143,23 @@ calls =
     ∷ example (usb-reads (small 0) (one ++ (0x00 ∷ 0x00 ∷ 0x41 ∷ 0x00 ∷ [])) fresh) (unread 6 8 12)
     ∷ example (usb-reads (small 0) ((0x41 ∷ 0x00 ∷ 0xFF ∷ 0xEE ∷ 0xEE ∷ 0xEE ∷ 0xEE ∷ 0xEE ∷ []) ++ (0x00 ∷ 0x00 ∷ [])) fresh)
     (unread 3 0 12)
+    ∷ example (usb-reads (small 0) ((0x00 ∷ 0x00 ∷ 0xEE ∷ 0xEE ∷ 0xEE ∷ 0xEE ∷ 0xEE ∷ 0xEE ∷ []) ++ (0x41 ∷ 0x00 ∷ [])) fresh)
+    (unread 6 0 12)
+    ∷ example (usb-reads (small 0) (apart ++ (0x00 ∷ 0x00 ∷ [])) fresh) (unread 5 0 12)
+    -- a tail that is cut, single and streaming
+    ∷ example (usb-reads (small 0) (0x01 ∷ 0x00 ∷ 0xFF ∷ []) fresh) (unread 5 0 12)
+    ∷ example (usb-reads (small 2) (0x01 ∷ 0x00 ∷ 0xFF ∷ []) fresh) (unread 5 0 12)
     ∷ example (read (UsbReading.readOf (U1 1) twelve fresh (spare 9))) (unread 4 0 9)
     ∷ example (read (UsbReading.readOf (U1 1) twelve fresh (spare 10)))
     (rows 2 (expecting 0) (2 ∷ 1 ∷ 254 ∷ 0 ∷ 1 ∷ 6 ∷ 3 ∷ 255 ∷ 0 ∷ 5 ∷ []) 0)
     ∷ example (read (UsbReading.readOf (U1 1) (twelve ++ (0x41 ∷ 0x00 ∷ [])) fresh [])) (unread 3 12 0)
+    ∷ example (read (UsbReading.readOf (U1 1) (twelve ++ (0x01 ∷ 0x00 ∷ 0xFF ∷ [])) fresh [])) (unread 5 12 0)
+    ∷ example (read (UsbReading.readOf (small 0) (one ++ (0x00 ∷ 0x00 ∷ [])) fresh [])) (unread 6 8 0)
     -- the writer: 1, 2, then 3 at its least index, then 4
     ∷ example (usb-writes (usb 1 1 3 16 64 0) (0xFF ∷ []) (2 ∷ []) 0 0xEE false) (unwritten 1 0 16)
     ∷ example (usb-writes (U1 1) (0xFF ∷ []) (2 ∷ []) 256 0xEE false) (unwritten 1 0 16)
     ∷ example (usb-writes (U1 1) (0xFF ∷ []) (0 ∷ []) 0 0xEE false) (unwritten 2 0 16)
+    ∷ example (usb-writes (U1 1) (0xFF ∷ []) (2 ∷ []) 0 0xEE false) (unwritten 2 0 16)
     ∷ example (usb-writes (U1 1) [] (replicate 4097 0) 0 0xEE false) (unwritten 2 0 16)
     ∷ example (usb-writes (U1 1) [] (replicate 4096 0) 0 0xEE false) (unwritten 3 0 16)
     ∷ example (usb-writes (U1 1) (0xFF ∷ []) (1 ∷ 0 ∷ 0 ∷ []) 0 0xEE false) (unwritten 3 1 16)
@@ -143,6 +171,9 @@ calls =
     ∷ example (usb-writes (small 2) (replicate 7 5) (7 ∷ []) 0 0xEE false) (bytes 12 1 ((7 ∷ 0 ∷ replicate 7 5) ++ (0xEE ∷ 0xEE ∷ 0xEE ∷ [])) 4)
     ∷ example (wrote (UsbWriting.writeOf (U1 1) two (1 ∷ 3 ∷ []) 254 0xEE false (spare 11))) (unwritten 4 0 11)
     ∷ example (wrote (UsbWriting.writeOf (U1 1) two (1 ∷ 3 ∷ []) 254 0xEE false (spare 12))) (bytes 12 0 twelve 0)
+    ∷ example (wrote (UsbWriting.writeOf (U1 1) two (1 ∷ 3 ∷ []) 254 0xEE true (spare 15))) (unwritten 4 0 15)
+    ∷ example (wrote (UsbWriting.writeOf (U1 1) (0xFF ∷ []) (2 ∷ []) 256 0xEE false [])) (unwritten 1 0 0)
+    ∷ example (wrote (UsbWriting.writeOf (U1 1) (0xFF ∷ []) (2 ∷ []) 0 0xEE false [])) (unwritten 2 0 0)
     ∷ example (wrote (UsbWriting.writeOf (U1 1) [] (0 ∷ []) 254 0xEE false [])) (unwritten 3 0 0)
     ∷ []
 
@@ -163,8 +194,11 @@ pub more-bytes : (bs : List ℕ) → length bs ≡ 262145 → (UsbReading.readOf
 unfolding valid settled U.headers U.sound UsbReading.judged UsbReading.readOf
 more-bytes bs e = (rw e refl, refl)
 
--- 262,144 bytes are written, and 262,145 are not, however much room there is
-pub most-written : (bs out : List ℕ) → length out ≡ 300000 → (length bs ≡ 262144 → stored 0 out (list bs) .answer ≡ Writes.Bytes 262144 0)
+-- where a writer has room for them, 262,144 bytes that it has composed are written, and 262,145 are not
+pub most-written : (bs out : List ℕ) → 262145 ≤ length out → (length bs ≡ 262144 → stored 0 out (list bs) .answer ≡ Writes.Bytes 262144 0)
     × (length bs ≡ 262145 → stored 0 out (list bs) .answer ≡ Writes.Refused 4 0)
 unfolding settled
-most-written bs out room = (λ e. rw (room, e) refl, λ e. rw (room, e) refl)
+most-written bs out room = (
+  λ e. rw (le-ltb (min (length out) 262144) (length bs) (omega arith), e) refl,
+  λ e. rw (lt-ltb (min (length out) 262144) (length bs) (omega arith)) refl,
+)
