@@ -1,6 +1,6 @@
 -- For every input a contract determines what its function answers, and what it leaves of what was lent: any two results that it allows are equal. One line
--- for each entry point and for each other public function that asks nothing, about the contract that stands in its code (`Post`: see Tied). Inner
--- functions that ask something are public for our own crates only: docs/DECISIONS.md lists them.
+-- for each public function that asks nothing, about the contract that stands in its code (`Post`: see Tied), and for rowtext's report and two of layout's.
+-- The exceptions are listed in docs/DECISIONS.md, 'What a contract leaves open'.
 use Prim.Native.Nat.{ℕ}
 use mathlib.Core.Path.{_≡_, sym, ap, _∙_}
 use mathlib.Core.List.{List}
