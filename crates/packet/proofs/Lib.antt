@@ -1,5 +1,6 @@
 pub mod AnswerLaws
 pub mod CounterLaws
+pub mod KindLaws
 pub mod PacketsLaws
 pub mod PartLaws
 pub mod ReaderLaws

@@ -23,11 +23,9 @@ use Rattle.promises.proofs.Call.{Answers, Rules, Room, Accepts, Given, 
 -- How an answer is told in document 01's numbers: its number, 0 where nothing is refused; its value, which is a count or a refusal's place; and the state
 -- or counter that is left of the one given
 pub record Telling {E C : Type 0} (refuse : ℕ → ℕ → E) (accept : ℕ → C → E) : Type 0 where
-  pub number : E → ℕ
-  pub value : E → ℕ
-  pub counter : C → E → C
-  pub of-refusal : (n p : ℕ) (c : C) → (number (refuse n p) ≡ n) × (value (refuse n p) ≡ p) × (counter c (refuse n p) ≡ c)
-  pub of-acceptance : (k : ℕ) (d c : C) → (number (accept k d) ≡ 0) × (value (accept k d) ≡ k) × (counter c (accept k d) ≡ d)
+  pub told : C → E → ℕ × ℕ × C
+  pub of-refusal : (n p : ℕ) (c : C) → told c (refuse n p) ≡ (n, p, c)
+  pub of-acceptance : (k : ℕ) (d c : C) → told c (accept k d) ≡ (0, k, d)
   pub either : (r : E) → ((n : ℕ) × (p : ℕ) × (r ≡ refuse n p)) ⊎ ((k : ℕ) × (d : C) × (r ≡ accept k d))
 
 abbrev either-read : (r : Reading) → ((n : ℕ) × (p : ℕ) × (r ≡ R.Refused n p)) ⊎ ((k : ℕ) × (d : Counter) × (r ≡ R.Rows k d))
@@ -36,11 +34,9 @@ either-read (R.Refused n p) = inl (n, p, refl)
 
 abbrev pub reading : Telling R.Refused R.Rows
 reading = record {
-  number = readNumber;
-  value = readValue;
-  counter = readState;
-  of-refusal = λ n p c. (refl, refl, refl);
-  of-acceptance = λ k d c. (refl, refl, refl);
+  told = λ c r. (readNumber r, readValue r, readState c r);
+  of-refusal = λ n p c. refl;
+  of-acceptance = λ k d c. refl;
   either = either-read;
 }
 
@@ -50,20 +46,16 @@ either-write (W.Refused n p) = inl (n, p, refl)
 
 abbrev pub writing : Telling W.Refused W.Bytes
 writing = record {
-  number = writeNumber;
-  value = writeValue;
-  counter = writeCounter;
-  of-refusal = λ n p c. (refl, refl, refl);
-  of-acceptance = λ k d c. (refl, refl, refl);
+  told = λ c r. (writeNumber r, writeValue r, writeCounter c r);
+  of-refusal = λ n p c. refl;
+  of-acceptance = λ k d c. refl;
   either = either-write;
 }
 
 -- what a contract in numbers says of a call with the state or counter c: it tells number n and value v, leaves d of c, and what was lent at `left`
 pub record InNumbers {E C : Type 0} {refuse : ℕ → ℕ → E} {accept : ℕ → C → E} (T : Telling refuse accept) (a : Answer E) (c : C)
     (n v : ℕ) (d : C) (left : List ℕ) : Type 0 where
-  pub number : n ≡ T .number (a .answer)
-  pub value : v ≡ T .value (a .answer)
-  pub counter : d ≡ T .counter c (a .answer)
+  pub told : (n, v, d) ≡ T .told c (a .answer)
   pub lent : left ≡ a .lent
 
 -- What is promised of it: the same as of a call that answers
@@ -82,15 +74,14 @@ module _ {E C : Type 0} {refuse : ℕ → ℕ → E} {accept : ℕ → C → E} 
   pub behind-numbers : Gives a (a .answer) left
   behind-numbers = record { answer = refl; lent = g .lent }
 
+  told-as : {m p : ℕ} {e : C} → T .told c (a .answer) ≡ (m, p, e) → (n ≡ m) × (v ≡ p) × (d ≡ e)
+  told-as x = let y = g .told ∙ x in (ap (λ z. z .0) y, ap (λ z. z .1) y, ap (λ z. z .2) y)
+
   of-refusal : {m p : ℕ} → a .answer ≡ refuse m p → (n ≡ m) × (v ≡ p) × (d ≡ c)
-  of-refusal {m} {p} e =
-      let (x, y, z) = T .of-refusal m p c in
-      (g .number ∙ ap (T .number) e ∙ x, g .value ∙ ap (T .value) e ∙ y, g .counter ∙ ap (T .counter c) e ∙ z)
+  of-refusal {m} {p} e = told-as (ap (T .told c) e ∙ T .of-refusal m p c)
 
   pub of-acceptance : {k : ℕ} {e : C} → a .answer ≡ accept k e → (n ≡ 0) × (v ≡ k) × (d ≡ e)
-  of-acceptance {k} {e} x =
-      let (i, y, z) = T .of-acceptance k e c in
-      (g .number ∙ ap (T .number) x ∙ i, g .value ∙ ap (T .value) x ∙ y, g .counter ∙ ap (T .counter c) x ∙ z)
+  of-acceptance {k} {e} x = told-as (ap (T .told c) x ∙ T .of-acceptance k e c)
 
   module _ {Refusal : ℕ → ℕ → Type 0} {Accept : ℕ → C → Type 0} {lent : List ℕ}
       (h : Answers refuse accept Refusal Accept lent (a .answer) left) where
@@ -160,42 +151,20 @@ read-numbers g h =
 
 ---- Who sees numbers -----------------------------------------------------------------------------------------------------------
 
-told-number : (r : Reading) → toldNumber (toldOf r) ≡ readNumber r
-told-number (R.Rows k d) = refl
-told-number (R.Refused n p) = refl
-
-told-value : (r : Reading) → toldValue (toldOf r) ≡ readValue r
-told-value (R.Rows k d) = refl
-told-value (R.Refused n p) = refl
+lent-told : (c : Counter) (r : Reading) → (toldNumber (toldOf r), toldValue (toldOf r), readState c r) ≡ reading .told c r
+lent-told c (R.Rows k d) = refl
+lent-told c (R.Refused n p) = refl
 
 -- a caller that lends the state
 pub lent-numbers : {a : Answer Reading} {c : Counter} {u : Told} {d : Counter} {left : List ℕ} → Tells a c u d left
     → InNumbers reading a c (toldNumber u) (toldValue u) d left
-lent-numbers {a} g =
-    record {
-      number = ap toldNumber (g .told) ∙ told-number (a .answer);
-      value = ap toldValue (g .told) ∙ told-value (a .answer);
-      counter = g .state;
-      lent = g .lent;
-    }
+lent-numbers {a} {c} g = record { told = rw (g .told, g .state) (lent-told c (a .answer)); lent = g .lent }
 
 -- a caller from C
 pub c-reads : {a : Answer Reading} {c : Counter} {x : ReadResult} {left : List ℕ} → Reads a c x left
     → InNumbers reading a c (x .number) (x .value) (x .counter) left
-c-reads g =
-    record {
-      number = ap (λ x. x .number) (g .result);
-      value = ap (λ x. x .value) (g .result);
-      counter = ap (λ x. x .counter) (g .result);
-      lent = g .rows;
-    }
+c-reads g = record { told = ap (λ x. (x .number, x .value, x .counter)) (g .result); lent = g .rows }
 
 pub c-writes : {a : Answer Writing} {c : ℕ} {x : WriteResult} {left : List ℕ} → Writes a c x left
     → InNumbers writing a c (x .number) (x .value) (x .counter) left
-c-writes g =
-    record {
-      number = ap (λ x. x .number) (g .result);
-      value = ap (λ x. x .value) (g .result);
-      counter = ap (λ x. x .counter) (g .result);
-      lent = g .out;
-    }
+c-writes g = record { told = ap (λ x. (x .number, x .value, x .counter)) (g .result); lent = g .out }

@@ -8,7 +8,7 @@ use native.Mathlib.Omega.{arith}
 use mathlib.Core.Path.{_≡_, refl}
 use mathlib.Core.Bool.{Bool, true, or-true}
 use mathlib.Core.Logic.{_↔_}
-use mathlib.Core.List.{List, [], map}
+use mathlib.Core.List.{List, [], _∷_, map}
 use lib.ListN.{length, take, drop}
 use borrow.Author.Tests.{le-leb, ne-eqb}
 use Rattle.packet.specs.declared.Counter.{Counter}
@@ -19,11 +19,13 @@ use Rattle.packet.specs.declared.Writing.the-variants as W
 use Rattle.packet.specs.declared.Checked.{Checked}
 use Rattle.packet.specs.Answer.{Answer, Gives}
 use Rattle.packet.specs.Counter.{fresh, valid, gap}
+use Rattle.packet.specs.Kind.{kindOf}
 use Rattle.packet.specs.Message.{Msg}
 use Rattle.packet.specs.Part.{partOf, checkOf, checkNumber, checkPlace}
 use Rattle.packet.specs.Row.{table, behind}
 use Rattle.packet.proofs.AnswerLaws as AnswerLaws
 use Rattle.packet.proofs.CounterLaws.{difference-back, difference-only}
+use Rattle.packet.proofs.KindLaws as KindLaws
 use Rattle.packet.proofs.PartLaws as PartLaws
 use Rattle.lent.specs.declared.Told.{Told}
 use Rattle.lent.specs.Told.{Tells, toldNumber, toldValue}
@@ -118,6 +120,15 @@ module _ (t : List ℕ) (p n : ℕ) {r : Checked} (check : r ≡ checkOf t p n) 
 
   pub part-shown : p + n ≤ length t → (checkNumber r ≡ 0) × (shown ≡ take n (drop p t)) × (length shown ≡ n)
   part-shown = rw (check, part) (PartLaws.part-inside t p n)
+
+-- packet::kind, of a packet with the first byte b: from the slave RES, ERR, EV, SERV and DAQ, from the master CMD and STIM
+module _ (b : ℕ) (bs : List ℕ) {r : ℕ} where
+  pub kind-from-slave : r ≡ kindOf 0 (b ∷ bs)
+      → (b ≡ 0xFF → r ≡ 1) × (b ≡ 0xFE → r ≡ 2) × (b ≡ 0xFD → r ≡ 3) × (b ≡ 0xFC → r ≡ 4) × (b ≤ 0xFB → r ≡ 5)
+  kind-from-slave call = rw call (KindLaws.slave-kinds b bs)
+
+  pub kind-from-master : r ≡ kindOf 1 (b ∷ bs) → (0xC0 ≤ b → r ≡ 6) × (b ≤ 0xBF → r ≡ 7)
+  kind-from-master call = rw call (KindLaws.master-kinds b bs)
 
 ---- Demand 2: written bytes are those of document 01, gaps are modulo the counter's size, what was written reads back ------------
 
@@ -237,7 +248,7 @@ module _ (s : FlexRaySetting.Setting) (bs ns : List ℕ) (c fill : ℕ) (out : L
   pub xcp-flexray-bytes : x .number ≡ 0 → Flexray.Writes s bs ns c fill out (W.Bytes (x .value) (x .counter)) left
   xcp-flexray-bytes = Flexray.writes-accepted s bs ns c fill out (c-writes call)
 
--- xcp_part_check; xcp_kind has the contract of packet::kind
+-- xcp_part_check; xcp_kind has the contract of packet::kind, so that `kind-from-slave` and `kind-from-master` hold of it
 module _ (t : List ℕ) (p n : ℕ) {x : CheckResult} (call : x ≡ checkResult (checkOf t p n)) where
   pub xcp-part-refused : length t < p + n → (x .number ≡ 5) × (x .place ≡ p)
   xcp-part-refused h = let (number, place, empty) = PartLaws.part-outside t p n h in (rw call number, rw call place)
