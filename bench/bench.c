@@ -1,7 +1,7 @@
 /*
  * Measures the library against idiomatic.c and tuned.c in one process. First all three are held to the same answers, on random
  * cases and on every case that is measured; if one differs the exit status is 1. Then they take turns, with memcpy of the same
- * bytes as the fourth.
+ * bytes as the fourth. For a text, plain.c stands for both: its reader gives the answers, its tokenizer only counts the words.
  */
 #include <stdio.h>
 #include <string.h>
@@ -10,8 +10,10 @@
 #include "bench.h"
 
 enum { SINGLE, MULTIPLE, STREAMING };
+enum { LONGEST = 56 }; /* of a packet, for a text */
 enum { TRANSFER = 262144, LENGTHS = 4096, ROWS = 131072, FRAMES = 1032, FRAME = 254 };
 enum { OURS, IDIOMATIC, TUNED, MEMCPY, WAYS };
+enum { READER = IDIOMATIC, TOKENIZER = TUNED }; /* for a text */
 enum { MOST_ROUNDS = 4000, SAMPLE = 100000 }; /* SAMPLE: least nanoseconds of one timed run */
 enum { PASSES = 7, MOST_LINES = 64 };
 
@@ -166,6 +168,35 @@ static unsigned differing(unsigned cases, unsigned *refused)
     return differ;
 }
 
+static int same_settings(xcp_settings a, xcp_settings b)
+{
+    return memcmp(&a, &b, sizeof a) == 0;
+}
+
+/* The texts that are measured, whole and damaged: cut, or one byte too long, and up to three other bytes in it, half of them among
+   the first words. Gives the cases in which the library and the plain reader differ. */
+static unsigned differing_texts(unsigned cases, unsigned *refused)
+{
+    static const uint8_t bytes[] = "/*\"\n 0x1A_";
+    static const uint32_t longest[] = {LONGEST, LONGEST, 7, 8, 255, 256, 65535, 65536};
+    static uint8_t text[TEXT + 1];
+    unsigned differ = 0;
+    *refused = 0;
+    for (unsigned i = 0; i < cases; i++) {
+        make_text((text_kind)(i % TEXTS), text);
+        text[TEXT] = '\n';
+        uint32_t way = i < TEXTS ? 2 : random_below(8);
+        size_t n = way == 0 ? TEXT + 1 : way == 1 ? random_below(TEXT) : TEXT;
+        for (uint32_t k = i < TEXTS ? 0 : random_below(4); k != 0; k--)
+            text[random_below(random_below(2) ? 500 : TEXT)] = bytes[random_below(sizeof bytes - 1)];
+        uint32_t x = longest[random_below(8)];
+        xcp_settings ours = xcp_usb_settings(text, n, x);
+        differ += !same_settings(ours, plain_usb_settings(text, n, x));
+        *refused += ours.number != 0;
+    }
+    return differ;
+}
+
 /* Making what is measured. */
 
 /* One transfer with as many packets as fit; not more than 4096 in one write. Where it is only read, writes that are filled up are
@@ -273,15 +304,27 @@ static int make_parts(xcp_usb_setting s, uint32_t least, uint32_t most, size_t c
 
 /* One run of each job in one of the ways. The sum of what they answer is kept, so that no call is left out. */
 
-typedef enum { USB_READ, USB_WRITE, FLEXRAY_READ, FLEXRAY_WRITE } job;
+typedef enum { USB_READ, USB_WRITE, FLEXRAY_READ, FLEXRAY_WRITE, USB_SETTINGS } job;
 
 static volatile uint32_t kept;
+
+/* The text stands in `transfer`. */
+static uint32_t run_text(int w)
+{
+    if (w == TOKENIZER)
+        return (uint32_t)plain_words(transfer, it.n);
+    return (w == OURS ? xcp_usb_settings : plain_usb_settings)(transfer, it.n, LONGEST).res_daq.data_packet;
+}
 
 static void run(job j, int w)
 {
     if (w == MEMCPY) {
         memcpy(copied, transfer, it.n);
         __asm__ volatile("" : : "r"(copied) : "memory");
+        return;
+    }
+    if (j == USB_SETTINGS) {
+        kept += run_text(w);
         return;
     }
     const implementation *f = &ways[w];
@@ -309,6 +352,8 @@ static void run(job j, int w)
             x = f->flexray_write(it.flexray, p, it.bytes_of[i], l, it.in[i], first, 0xEE, out, it.length_of[i]);
             first = x.counter;
             kept += x.value;
+            break;
+        case USB_SETTINGS:
             break;
         }
         t += it.length_of[i];
@@ -538,6 +583,51 @@ static void lengths_table(double budget)
     }
 }
 
+/* A row of the table of texts: ns in each way, and the ratios. */
+typedef struct { size_t words; double ns[MEMCPY][PASSES], of_reader[PASSES], of_tokenizer[PASSES]; } text_line;
+
+static text_line text_lines[TEXTS];
+static const char *const text_names[TEXTS] = {"keywords", "comments", "nested"};
+
+static void text_rows(double budget)
+{
+    for (int kind = 0; kind < TEXTS; kind++) {
+        text_line *l = &text_lines[kind];
+        make_text((text_kind)kind, transfer);
+        it.n = TEXT;
+        l->words = plain_words(transfer, TEXT);
+        xcp_settings a = xcp_usb_settings(transfer, TEXT, LONGEST);
+        if (a.number != 0 || !same_settings(a, plain_usb_settings(transfer, TEXT, LONGEST))) {
+            printf("text, %s: refused, or the answers differ\n", text_names[kind]);
+            differ = 1;
+            return;
+        }
+        measured m = measure(USB_SETTINGS, budget / PASSES);
+        for (int w = 0; w < MEMCPY; w++)
+            l->ns[w][pass] = m.ns[w];
+        l->of_reader[pass] = m.idiomatic;
+        l->of_tokenizer[pass] = m.tuned;
+    }
+}
+
+static double megabytes(double *ns)
+{
+    return TEXT * 1e3 / median(ns, PASSES);
+}
+
+static void print_texts(void)
+{
+    printf("\n| text | bytes | words | ours, us | ours, MB/s | tokenizer, MB/s | reader, MB/s | ours/tokenizer | ours/reader |\n"
+           "|---|---|---|---|---|---|---|---|---|\n");
+    for (int kind = 0; kind < TEXTS; kind++) {
+        text_line *l = &text_lines[kind];
+        double of_tokenizer = median(l->of_tokenizer, PASSES);
+        printf("| %s | %d | %lu | %.2f | %.0f | %.0f | %.0f | %.2f%s | %.2f |\n", text_names[kind], TEXT, (unsigned long)l->words,
+               median(l->ns[OURS], PASSES) / 1e3, megabytes(l->ns[OURS]), megabytes(l->ns[TOKENIZER]), megabytes(l->ns[READER]),
+               of_tokenizer, of_tokenizer > 1.0 ? " *" : "", median(l->of_reader, PASSES));
+    }
+}
+
 int main(int argc, char **argv)
 {
     (void)argv;
@@ -549,8 +639,10 @@ int main(int argc, char **argv)
         packets[i] |= 0xF8; /* so that every kind is frequent */
     unsigned refused, cases = emulated ? 3000 : 30000;
     unsigned bad = differing(cases, &refused);
-    printf("%u random writes and %u random reads, %u of them refused: %u differ\n\n", cases, cases, refused, bad);
-    if (bad != 0)
+    printf("%u random writes and %u random reads, %u of them refused: %u differ\n", cases, cases, refused, bad);
+    unsigned bad_texts = differing_texts(cases, &refused);
+    printf("%u texts, %u of them refused: %u differ\n\n", cases, refused, bad_texts);
+    if (bad != 0 || bad_texts != 0)
         return 1;
 
     random_bytes(packets, TRANSFER);
@@ -559,8 +651,10 @@ int main(int argc, char **argv)
         usb_rows(USB_READ, "USB read", budget);
         usb_rows(USB_WRITE, "USB write", budget);
         flexray_rows(budget);
+        text_rows(budget);
     }
     print_lines();
+    print_texts();
     lengths_table(budget);
     printf("\n%.0f seconds\n", (now() - start) / 1e9);
     return differ;

@@ -1,4 +1,4 @@
-/* The two C implementations that the library is measured against. Their rules are those of include/plumagemud.h. */
+/* What the library is measured against: two C implementations, and for texts a plain one. Their rules are those of plumagemud.h. */
 #ifndef BENCH_H
 #define BENCH_H
 
@@ -16,5 +16,16 @@
 
 IMPLEMENTATION(idiomatic)
 IMPLEMENTATION(tuned)
+
+/* The longest text, which is the length of those that are measured. */
+enum { TEXT = 16384 };
+typedef enum { KEYWORDS, COMMENTS, NESTED, TEXTS } text_kind;
+
+/* Writes a text of TEXT bytes. */
+void make_text(text_kind kind, uint8_t *to);
+
+/* The number of words before the text's end, or before a comment or a string that is not closed. */
+size_t plain_words(const uint8_t *text, size_t n);
+xcp_settings plain_usb_settings(const uint8_t *text, size_t n, uint32_t longest);
 
 #endif

@@ -1,7 +1,7 @@
 /*
- * Plumagemud: lists of XCP packets in USB transfers and FlexRay frames.
+ * Plumagemud: lists of XCP packets in USB transfers and FlexRay frames, and USB settings from a description file.
  *
- * Every function answers every call; nothing has to be checked before. A refusal is a number from 1 to 8 with a place, and
+ * Every function answers every call; nothing has to be checked before. A refusal is a number from 1 to 9 with a place, and
  * changes nothing. The functions keep no data of their own, so threads may call them at the same time.
  *
  * Arrays. Each pointer is followed by the number of its elements. It must be valid for so many, and aligned as its type asks.
@@ -84,6 +84,16 @@ typedef struct { uint32_t number, value, counter; } xcp_written;           /* nu
 typedef struct { uint32_t number, place; } xcp_checked;                    /* number 0: the part is inside */
 
 /*
+ * What a read of settings returns.
+ *   number    0: both settings were found, and they are sound. Any other number: refused.
+ *   place     0, or the place of the refusal: an index into the text, or its length.
+ *   cmd_stim  the setting of the endpoint for CMD and STIM; its direction is 1.
+ *   res_daq   the setting of the endpoint for RES, ERR, DAQ, EV and SERV; its direction is 0.
+ * After a refusal the twelve numbers of the settings are all 0.
+ */
+typedef struct { uint32_t number, place; xcp_usb_setting cmd_stim, res_daq; } xcp_settings; /* number 0: both; else place */
+
+/*
  * Reads a USB transfer: the joined bytes of its data packets, which all have s.data_packet bytes but the last.
  *   transfer, n    the transfer and its length in bytes, at most 262144.
  *   c              the state of the counter; {0, 0} for the first transfer, then the counter that the last read returned.
@@ -155,6 +165,37 @@ xcp_read    xcp_flexray_read(xcp_flexray_setting s, const uint8_t *frame, size_t
  */
 xcp_written xcp_flexray_write(xcp_flexray_setting s, const uint8_t *packets, size_t n, const uint32_t *lengths, size_t count,
                           uint32_t first, uint8_t fill, uint8_t *out, size_t room);
+
+/*
+ * Reads the settings of the two USB endpoints from the XCP_ON_USB block of a slave's description file (A2L).
+ *   text, n  the block and its length in bytes, at most 16384. Blanks and comments may stand before and behind the block, and
+ *            nothing else: the 0 that ends a string in C is not counted.
+ *   longest  bytes of the longest packet, for both settings. The block does not say it.
+ * Words. Blank, tab, CR, LF and comments part words. A comment goes from slash star to the next star slash behind them, or from
+ * // to LF, CR or the text's end. A quoted string is one word, from " to the next ", any byte between, no escapes. A comment
+ * and a string also end a word right before them. Words are compared byte for byte.
+ * Numbers. Decimal digits, or 0x and hexadecimal digits of either case, up to 65535; leading zeros are allowed.
+ * The block is /begin XCP_ON_USB, four numbers, a header word, entries, /end XCP_ON_USB.
+ *   header word  HEADER_LEN_BYTE, HEADER_LEN_CTR_BYTE, HEADER_LEN_FILL_BYTE, HEADER_LEN_WORD, HEADER_LEN_CTR_WORD,
+ *                HEADER_LEN_FILL_WORD: header 0 to 5 of both settings
+ *   entries      the endpoint blocks OUT_EP_CMD_STIM (cmd_stim) and IN_EP_RESERR_DAQ_EVSERV (res_daq), each once, in either
+ *                order; other blocks and words before, between and behind them are read over
+ * An endpoint block is /begin and its name, a number, BULK_TRANSFER or INTERRUPT_TRANSFER, a number (data_packet), a number, a
+ * packing word, an alignment word, words and blocks that are read over, /end and its name.
+ *   packing word    MESSAGE_PACKING_SINGLE, MESSAGE_PACKING_MULTIPLE, MESSAGE_PACKING_STREAMING: packing 0 to 2
+ *   alignment word  ALIGNMENT_8_BIT, ALIGNMENT_16_BIT, ALIGNMENT_32_BIT, ALIGNMENT_64_BIT: align 1, 2, 4, 8
+ * A block that is read over is /begin, a name, words and such blocks, /end and the same name. Any word but /begin and /end is a
+ * name, inside another block an endpoint's too. Blocks may stand in one another as deep as the text allows: a call takes about
+ * 10,000 bytes of stack, however deep they stand.
+ * Refusals, in the order in which they are found:
+ *   2 at 0       the text is longer than 16384 bytes
+ *   9 at a word  the first that cannot stand where it stands, whatever might follow: so a second endpoint is refused at its
+ *                name, a missing one at the /end of the whole block, a wrong name behind /end at that name, a word behind the
+ *                block at that word
+ *   9 at n       all words can stand, but the text stops before the block is whole, or inside a comment or a string
+ *   1 at 0       the settings are not both sound: a data_packet or longest is out of its range (see xcp_usb_setting)
+ */
+xcp_settings xcp_usb_settings(const uint8_t *text, size_t n, uint32_t longest);
 
 /*
  * Whether `length` bytes from `place` on lie inside an input of n bytes. A row's packet always does.

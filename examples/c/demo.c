@@ -1,4 +1,7 @@
-/* Writes packets as a USB transfer and as a FlexRay frame, reads both back, and reads a transfer that was cut. */
+/*
+ * Writes packets as a USB transfer and as a FlexRay frame, reads both back, and reads a transfer that was cut; and takes the setting
+ * for a transfer from a description file's block.
+ */
 #include <stdio.h>
 
 #include "plumagemud.h"
@@ -70,6 +73,53 @@ static void usb(void)
     show_read("usb read, cut", r, out, rows);
 }
 
+static void show_setting(const char *what, xcp_usb_setting s)
+{
+    printf("  %s: header %u, packing %u, align %u, data packets of %u, packets of up to %u, direction %u\n", what, (unsigned)s.header,
+           (unsigned)s.packing, (unsigned)s.align, (unsigned)s.data_packet, (unsigned)s.longest, (unsigned)s.direction);
+}
+
+static void show_settings(const char *what, xcp_settings a)
+{
+    if (a.number != 0) {
+        printf("%s: refused %u at %u\n", what, (unsigned)a.number, (unsigned)a.place);
+        return;
+    }
+    printf("%s:\n", what);
+    show_setting("cmd_stim", a.cmd_stim);
+    show_setting("res_daq", a.res_daq);
+}
+
+static void settings(void)
+{
+    static const char block[] =
+        "/begin XCP_ON_USB\n"
+        "  0x0100 0x108C 0x0EDC 2  /* version, vendor, product, interface */\n"
+        "  HEADER_LEN_CTR_BYTE\n"
+        "  /begin OUT_EP_CMD_STIM\n"
+        "    1 BULK_TRANSFER 0x40 0 MESSAGE_PACKING_SINGLE ALIGNMENT_8_BIT\n"
+        "  /end OUT_EP_CMD_STIM\n"
+        "  /begin IN_EP_RESERR_DAQ_EVSERV\n"
+        "    1 BULK_TRANSFER 0x10 0 MESSAGE_PACKING_MULTIPLE ALIGNMENT_32_BIT\n"
+        "  /end IN_EP_RESERR_DAQ_EVSERV\n"
+        "/end XCP_ON_USB\n";
+    const uint8_t transfer[] = {0x01, 0xFE, 0xFF, 0xEE, 0x03, 0xFF, 0x01, 0x02, 0x03, 0xEE, 0xEE, 0xEE};
+    const xcp_counter fresh = {0, 0};
+    uint32_t rows[5 * 8];
+
+    /* without the 0 that ends the string; the block does not say how long a packet may be: 64 */
+    xcp_settings a = xcp_usb_settings((const uint8_t *)block, COUNT(block) - 1, 64);
+    show_settings("settings", a);
+    if (a.number != 0)
+        return;
+    const xcp_read r = xcp_usb_read(a.res_daq, transfer, COUNT(transfer), fresh, rows, COUNT(rows));
+    show_read("usb read, by the block", r, transfer, rows);
+
+    /* its last line is missing: the text stops early, at its length */
+    a = xcp_usb_settings((const uint8_t *)block, COUNT(block) - COUNT("/end XCP_ON_USB\n"), 64);
+    show_settings("settings, cut", a);
+}
+
 static void flexray(void)
 {
     /* node 7, from the slave, frames of up to 32 bytes, NAX and LEN, alignment 2 */
@@ -98,5 +148,6 @@ int main(void)
 {
     usb();
     flexray();
+    settings();
     return 0;
 }

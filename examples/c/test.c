@@ -12,6 +12,7 @@ _Static_assert(sizeof(xcp_counter) == 8, "two numbers");
 _Static_assert(sizeof(xcp_read) == 16, "four numbers");
 _Static_assert(sizeof(xcp_written) == 12, "three numbers");
 _Static_assert(sizeof(xcp_checked) == 8, "two numbers");
+_Static_assert(sizeof(xcp_settings) == 56, "fourteen numbers");
 
 static unsigned passed, failed;
 
@@ -70,6 +71,23 @@ static int written_is(xcp_written w, uint32_t number, uint32_t value, uint32_t c
 static int checked_is(xcp_checked c, uint32_t number, uint32_t place)
 {
     return c.number == number && c.place == place;
+}
+
+static int same_setting(xcp_usb_setting a, xcp_usb_setting b)
+{
+    return a.header == b.header && a.packing == b.packing && a.align == b.align && a.data_packet == b.data_packet
+        && a.longest == b.longest && a.direction == b.direction;
+}
+
+static int settings_are(xcp_settings a, xcp_usb_setting cmd_stim, xcp_usb_setting res_daq)
+{
+    return a.number == 0 && a.place == 0 && same_setting(a.cmd_stim, cmd_stim) && same_setting(a.res_daq, res_daq);
+}
+
+static int settings_refused(xcp_settings a, uint32_t number, uint32_t place)
+{
+    static const xcp_usb_setting zeros = {0, 0, 0, 0, 0, 0};
+    return a.number == number && a.place == place && same_setting(a.cmd_stim, zeros) && same_setting(a.res_daq, zeros);
 }
 
 /* what a table and an output hold before each call */
@@ -253,6 +271,120 @@ static void test_kind(void)
     CHECK(xcp_kind(0, NULL, 0) == 0);
 }
 
+/* the bytes of examples/xcp_on_usb.a2l */
+static const uint8_t example[] = {
+#include "example.inc"
+};
+
+/* parts of a block, and what its endpoints say */
+#define HEAD "/begin XCP_ON_USB 1 0xfFfF 65535 0 "
+#define CTR_WORD HEAD "HEADER_LEN_CTR_WORD "
+#define CMD_NAME "/begin OUT_EP_CMD_STIM "
+#define CMD CMD_NAME "1 BULK_TRANSFER 8 16 MESSAGE_PACKING_STREAMING ALIGNMENT_64_BIT /end OUT_EP_CMD_STIM "
+#define RES_NAME "/begin IN_EP_RESERR_DAQ_EVSERV "
+#define RES RES_NAME "1 INTERRUPT_TRANSFER 0x0400 16 MESSAGE_PACKING_MULTIPLE ALIGNMENT_16_BIT /end IN_EP_RESERR_DAQ_EVSERV "
+#define CLOSED "/end XCP_ON_USB"
+#define LENGTH(text) ((uint32_t)sizeof(text) - 1)
+#define SETTINGS(text, longest) xcp_usb_settings((const uint8_t *)(text), LENGTH(text), longest)
+#define WRONG(before, behind) settings_refused(SETTINGS(before behind, 64), 9, LENGTH(before))
+
+static void test_usb_settings(void)
+{
+    const xcp_usb_setting cmd_stim = {4, 2, 8, 8, 64, 1}, res_daq = {4, 1, 2, 1024, 64, 0};
+    const uint32_t n = COUNT(example);
+    uint32_t accepted = 0, cut = 0;
+
+    CHECK(settings_are(xcp_usb_settings(example, n, 56), (xcp_usb_setting){5, 0, 4, 64, 56, 1},
+                       (xcp_usb_setting){5, 0, 4, 64, 56, 0}));
+    CHECK(settings_refused(xcp_usb_settings(example, n, 7), 1, 0));
+    CHECK(settings_refused(xcp_usb_settings(example, n, 65536), 1, 0));
+    CHECK(settings_refused(xcp_usb_settings(NULL, 0, 56), 9, 0));
+    CHECK(settings_refused(xcp_usb_settings(example, 17, 56), 9, 17));
+
+    /* cut anywhere; all of it but the last line end is a block too */
+    for (uint32_t i = 0; i < n; i++) {
+        const xcp_settings a = xcp_usb_settings(example, i, 56);
+        accepted += a.number == 0;
+        cut += a.number == 9 && a.place <= i && settings_refused(a, 9, a.place);
+    }
+    CHECK(accepted == 1 && cut == n - 1);
+
+    /* either order; words and blocks that are read over; strings and comments */
+    CHECK(settings_are(SETTINGS(CTR_WORD CMD RES CLOSED, 64), cmd_stim, res_daq));
+    CHECK(settings_are(SETTINGS("// x\r\t" CTR_WORD "A " RES "/begin A /begin B " CMD "/end B 7 /end A " CMD CLOSED "/* x */", 64),
+                       cmd_stim, res_daq));
+    CHECK(settings_are(SETTINGS("/*/ */" CTR_WORD "\"/* /end\"" RES "/begin\"\"/end\"\"/**/" CMD CLOSED "//", 64), cmd_stim, res_daq));
+}
+
+static void test_no_settings(void)
+{
+    /* 9 at a word that cannot stand */
+    CHECK(WRONG("/begin ", "XCP_ON_USB_2 1 2 3 4 HEADER_LEN_WORD"));
+    CHECK(WRONG("", "\"/begin\" XCP_ON_USB"));
+    CHECK(WRONG("/begin XCP_ON_USB 1 2 3 ", "65536 HEADER_LEN_WORD"));
+    CHECK(WRONG("/begin XCP_ON_USB 1 2 3 ", "0x HEADER_LEN_WORD"));
+    CHECK(WRONG(HEAD, "HEADER_LEN_LONG"));
+    CHECK(WRONG(CTR_WORD CMD "/begin ", "OUT_EP_CMD_STIM"));
+    CHECK(WRONG(CTR_WORD CMD, "/end XCP_ON_USB"));
+    CHECK(WRONG(CTR_WORD CMD RES "/begin A /end ", "B"));
+    CHECK(WRONG(CTR_WORD CMD RES "/begin ", "/end"));
+    CHECK(WRONG(CTR_WORD CMD RES CLOSED " ", "A"));
+    CHECK(WRONG(CTR_WORD CMD RES "/end ", "XCP_ON_USB\0"));
+
+    /* 9 at the length */
+    CHECK(WRONG(CTR_WORD CMD RES "/end", ""));
+    CHECK(WRONG(CTR_WORD CMD RES CLOSED " /*/", ""));
+    CHECK(WRONG(CTR_WORD CMD RES CLOSED " \"A", ""));
+
+    /* 1 for each setting by itself, and behind 9 */
+    CHECK(settings_refused(SETTINGS(HEAD "HEADER_LEN_BYTE " CMD RES CLOSED, 256), 1, 0));
+    CHECK(settings_refused(SETTINGS(CTR_WORD CMD RES_NAME "1 BULK_TRANSFER 1032 0 MESSAGE_PACKING_SINGLE ALIGNMENT_8_BIT "
+                                    "/end IN_EP_RESERR_DAQ_EVSERV " CLOSED, 64), 1, 0));
+    CHECK(settings_refused(SETTINGS(CTR_WORD RES CMD_NAME "1 BULK_TRANSFER 20 8 MESSAGE_PACKING_SINGLE ALIGNMENT_8_BIT "
+                                    "/end OUT_EP_CMD_STIM " CLOSED, 64), 1, 0));
+    CHECK(settings_refused(SETTINGS(CTR_WORD CMD RES, 7), 9, LENGTH(CTR_WORD CMD RES)));
+}
+
+/* a text of the greatest length, and one byte more */
+static uint8_t text[16385];
+
+static size_t put(size_t at, const char *words)
+{
+    while (*words)
+        text[at++] = (uint8_t)*words++;
+    return at;
+}
+
+static size_t put_times(size_t at, const char *words, size_t times)
+{
+    for (; times != 0; times--)
+        at = put(at, words);
+    return at;
+}
+
+static void test_long_texts(void)
+{
+    const xcp_usb_setting cmd_stim = {4, 2, 8, 8, 64, 1}, res_daq = {4, 1, 2, 1024, 64, 0};
+    const size_t from = put(0, CTR_WORD CMD RES);
+    const size_t deep = (16384 - from) / LENGTH("/begin\"\"");
+    const size_t closed = (16384 - from - LENGTH(CLOSED)) / LENGTH("/begin\"\"/end\"\"");
+
+    /* blanks up to the greatest length */
+    put_times(put(from, CLOSED), " ", COUNT(text) - from - LENGTH(CLOSED));
+    CHECK(settings_are(xcp_usb_settings(text, 16384, 64), cmd_stim, res_daq));
+    CHECK(settings_refused(xcp_usb_settings(text, 16385, 64), 2, 0));
+    CHECK(settings_refused(xcp_usb_settings(text, 16385, 7), 2, 0));
+
+    /* one block in another, as deep as can be: not closed, closed, and the outermost closed by another name */
+    put_times(put_times(from, "/begin\"\"", deep), " ", COUNT(text) - from - deep * LENGTH("/begin\"\""));
+    CHECK(settings_refused(xcp_usb_settings(text, 16384, 64), 9, 16384));
+    size_t at = put_times(put_times(from, "/begin\"\"", closed), "/end\"\"", closed);
+    put_times(put(at, CLOSED), "\n", COUNT(text) - at - LENGTH(CLOSED));
+    CHECK(settings_are(xcp_usb_settings(text, 16384, 64), cmd_stim, res_daq));
+    put(at - 2, "\"!\"");
+    CHECK(settings_refused(xcp_usb_settings(text, 16384, 64), 9, (uint32_t)at - 2));
+}
+
 int main(void)
 {
     test_usb_read();
@@ -260,6 +392,9 @@ int main(void)
     test_flexray();
     test_part_check();
     test_kind();
+    test_usb_settings();
+    test_no_settings();
+    test_long_texts();
     printf("%u results as they should be, %u not\n", passed, failed);
     return failed != 0;
 }

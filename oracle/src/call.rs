@@ -1,5 +1,6 @@
 //! A call of a function, and what it must answer.
 
+use crate::description::settings;
 use crate::reasons::{self, Fault};
 use crate::rule::*;
 
@@ -14,6 +15,7 @@ pub enum Call {
     Kind { direction: u32, packet: Vec<u8> },
     /// A reader's call with the state lent.
     Lent(Box<Call>),
+    Settings { text: Vec<u8>, longest: u32 },
 }
 
 #[derive(Clone, Debug, PartialEq)]
@@ -24,13 +26,20 @@ pub enum Answer {
     Kind(u32),
     /// What a reader answers, and the state as it is left.
     Lent(Read, Counter),
+    Settings(Result<[Usb; 2], (u32, u32)>),
 }
 
-pub const NAMES: [&str; 8] =
-    ["usb_read", "usb_write", "flexray_read", "flexray_write", "part", "kind", "usb_read_lent", "flexray_read_lent"];
+pub const FUNCTIONS: usize = 9;
 
-/// The functions whose reasons can meet; those with the state lent have the readers' own.
-pub const PAIRED: usize = 4;
+pub const NAMES: [&str; FUNCTIONS] =
+    ["usb_read", "usb_write", "flexray_read", "flexray_write", "part", "kind", "usb_read_lent", "flexray_read_lent", "usb_settings"];
+
+/// The readers and writers. Those with the state lent have the readers' own reasons for refusal.
+pub const TRANSPORTS: usize = 4;
+pub const SETTINGS: usize = 8;
+
+/// The functions whose reasons can meet.
+pub const PAIRED: [usize; 5] = [0, 1, 2, 3, SETTINGS];
 
 impl Call {
     pub fn function(&self) -> usize {
@@ -42,6 +51,7 @@ impl Call {
             Call::Part { .. } => 4,
             Call::Kind { .. } => 5,
             Call::Lent(call) => 6 + call.function() / 2,
+            Call::Settings { .. } => SETTINGS,
         }
     }
 
@@ -61,6 +71,7 @@ impl Call {
             },
             Call::Kind { direction, packet } => Answer::Kind(kind(*direction, packet[0])),
             Call::Lent(call) => call.lent_answer(),
+            Call::Settings { text, longest } => Answer::Settings(settings(text, *longest)),
         }
     }
 
@@ -86,6 +97,7 @@ impl Call {
             Call::Part { t, place, length } => reasons::parts(t.len(), *place, *length),
             Call::Kind { .. } => Vec::new(),
             Call::Lent(call) => call.faults(),
+            Call::Settings { text, longest } => reasons::description(text, *longest),
         }
     }
 }
@@ -97,6 +109,7 @@ impl Answer {
             Answer::Read(Read::Refused(n, place)) | Answer::Lent(Read::Refused(n, place), _) => Some((*n, *place as usize)),
             Answer::Write(Write::Refused(n, place)) => Some((*n, *place as usize)),
             Answer::Part(refused, _) => refused.map(|(n, place)| (n, place as usize)),
+            Answer::Settings(Err((n, place))) => Some((*n, *place as usize)),
             _ => None,
         }
     }

@@ -1,6 +1,6 @@
 //! Cases from random numbers. Each aims at acceptance, at a reason for refusal, or at two; the rule decides what is answered.
 
-use crate::call::{Call, NAMES, PAIRED};
+use crate::call::{Call, NAMES, TRANSPORTS};
 use crate::random::Random;
 use crate::reasons::{self, Fault, Why, REASONS};
 use crate::rule::*;
@@ -21,7 +21,7 @@ const TIMES: usize = 4;
 /// All cases: each pair of reasons on purpose, the longest output, random ones, and for both readers with the state lent each reason so
 /// many times. `take` says whether it takes a case; one that it does not take is made again.
 pub fn each(r: &mut Random, b: &Bounds, random: usize, lent: usize, take: &mut dyn FnMut(&Call) -> bool) {
-    for function in 0..PAIRED {
+    for function in 0..TRANSPORTS {
         for pair in reasons::pairs(function) {
             for _ in 0..TIMES {
                 while !take(&purposely(r, function, &pair, b)) {}
@@ -67,7 +67,7 @@ fn case(r: &mut Random, b: &Bounds) -> Call {
     let function = if function == 4 && r.one_in(2) { 5 } else { function };
     let aim = match r.below(7) {
         0..=2 if function != 5 => vec![r.pick(REASONS[function])],
-        3 if function < PAIRED => r.pick(&reasons::pairs(function)).to_vec(),
+        3 if function < TRANSPORTS => r.pick(&reasons::pairs(function)).to_vec(),
         _ => Vec::new(),
     };
     let holds = |call: &Call| {

@@ -1,19 +1,22 @@
-//! Random cases through the static library of crate plumagemud: `differential SEED COUNT`. What it answers, all that was lent to it, and
-//! what stands on both sides of that are compared with the oracle's answer.
+//! Random cases and texts through the static library of crate plumagemud: `differential SEED COUNT`. What it answers, all that was lent to
+//! it, and what stands on both sides of that are compared with the oracle's answer.
 
 mod call;
 mod cases;
+mod description;
 mod hits;
 mod random;
 mod reasons;
 mod rule;
+mod texts;
+mod tree;
 
 use call::{Answer, Call};
 use cases::Bounds;
 use rule::{Counter, Read, Write};
 
 #[repr(C)]
-#[derive(Clone, Copy)]
+#[derive(Clone, Copy, Debug, PartialEq)]
 struct UsbSetting {
     header: u32,
     packing: u32,
@@ -63,6 +66,15 @@ struct CheckResult {
     place: u32,
 }
 
+#[repr(C)]
+#[derive(Clone, Copy, Debug, PartialEq)]
+struct SettingsResult {
+    number: u32,
+    place: u32,
+    cmd_stim: UsbSetting,
+    res_daq: UsbSetting,
+}
+
 extern "C" {
     fn xcp_usb_read(s: UsbSetting, t: *const u8, n: usize, c: State, rows: *mut u32, numbers: usize) -> ReadResult;
     fn xcp_flexray_read(s: FlexRaySetting, t: *const u8, n: usize, c: State, rows: *mut u32, numbers: usize) -> ReadResult;
@@ -76,14 +88,23 @@ extern "C" {
     ) -> WriteResult;
     fn xcp_part_check(input: *const u8, n: usize, place: u32, length: u32) -> CheckResult;
     fn xcp_kind(direction: u32, packet: *const u8, n: usize) -> u32;
+    fn xcp_usb_settings(text: *const u8, n: usize, longest: u32) -> SettingsResult;
 }
 
 const BOUNDS: Bounds = Bounds { numbers: 700_000, room: 300_000, packets: 300_000, lengths: 5_000 };
+
+/// To so many cases there is a text. One in so many is at or past the longest, and has at most so many bytes.
+const TEXTS: usize = 8;
+const LONG: usize = 50;
+const TEXT: usize = 70_000;
 
 /// What stands in and around all that is lent, and how much of it around.
 const NUMBER: u32 = 0xA5C3_1E7F;
 const BYTE: u8 = 0xB7;
 const AROUND: usize = 16;
+
+/// What stands behind a text: one of these, which would go on with it.
+const BEHIND: [&[u8]; 5] = [b"*/", b"\"", b"X", b"/", b" XCP_ON_USB "];
 
 fn usb(s: &rule::Usb) -> UsbSetting {
     UsbSetting {
@@ -93,6 +114,14 @@ fn usb(s: &rule::Usb) -> UsbSetting {
 
 fn flexray(s: &rule::FlexRay) -> FlexRaySetting {
     FlexRaySetting { node: s.node, direction: s.direction, ceiling: s.ceiling, header: s.header, align: s.align }
+}
+
+fn settings(answer: &Result<[rule::Usb; 2], (u32, u32)>) -> SettingsResult {
+    let none = UsbSetting { header: 0, packing: 0, align: 0, data_packet: 0, longest: 0, direction: 0 };
+    match answer {
+        Ok([cmd_stim, res_daq]) => SettingsResult { number: 0, place: 0, cmd_stim: usb(cmd_stim), res_daq: usb(res_daq) },
+        Err((number, place)) => SettingsResult { number: *number, place: *place, cmd_stim: none, res_daq: none },
+    }
 }
 
 /// A state for C: any mark but 0 is known.
@@ -187,6 +216,11 @@ fn agrees(call: &Call, want: &Answer, mark: u32) -> (bool, String) {
         }
         // C has no function with the state lent: a refusal returns the state as it was given.
         (Call::Lent(call), Answer::Lent(want, _)) => agrees(call, &Answer::Read(want.clone()), mark),
+        (Call::Settings { text, longest }, Answer::Settings(want)) => {
+            let more = [text, BEHIND[text.len() % BEHIND.len()]].concat();
+            let got = unsafe { xcp_usb_settings(more.as_ptr(), text.len(), *longest) };
+            (got == settings(want), format!("{got:?}"))
+        }
         _ => (false, String::new()),
     }
 }
@@ -212,11 +246,16 @@ fn main() {
         true
     };
     cases::each(&mut random::Random(seed), &BOUNDS, count as usize, count as usize / 1_000, &mut take);
+    let texts = texts::Bounds { random: count as usize / TEXTS, most: TEXT, long: LONG };
+    texts::each(&mut random::Random(seed), &texts, &mut |call| {
+        tree::check(call);
+        take(call);
+    });
     print!("{}", hits.table());
     println!("{mismatches} mismatches");
     let lacking = hits.lacking(if count >= 1_000_000 { 1_000 } else { 0 });
     if lacking {
-        println!("an answer came fewer than 1000 times, or a pair that can meet never");
+        println!("an answer came fewer than 1000 times, or a pair that can meet, or a way to be no block, never");
     }
     std::process::exit((mismatches > 0 || lacking) as i32);
 }

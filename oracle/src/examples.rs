@@ -1,5 +1,6 @@
-//! Document 01's examples.
+//! Document 01's examples, and the block of document 000, chapter 4.2.
 
+use crate::description::settings;
 use crate::rule::*;
 
 const U1: Usb = Usb { header: 1, packing: 1, align: 4, size: 16, longest: 64, direction: 0 };
@@ -27,7 +28,46 @@ fn wire(text: &str, next: u32) -> Write {
     Write::Bytes(hex(text), next)
 }
 
+const HEAD: &str = "/begin XCP_ON_USB 0x0100 0x108C 0x0EDC 0x02 HEADER_LEN_FILL_WORD";
+const OUT: &str =
+    "/begin OUT_EP_CMD_STIM 0x01 BULK_TRANSFER 0x40 0 MESSAGE_PACKING_SINGLE /* only one */ ALIGNMENT_32_BIT /end OUT_EP_CMD_STIM";
+const IN: &str = "/begin IN_EP_RESERR_DAQ_EVSERV 0x01 BULK_TRANSFER 0x40 0 MESSAGE_PACKING_SINGLE ALIGNMENT_32_BIT
+    RECOMMENDED_HOST_BUFSIZE 1 // 64 bytes
+    /end IN_EP_RESERR_DAQ_EVSERV";
+const MORE: &str = "INTERFACE_STRING_DESCRIPTOR \"XCP /end\" /begin OUT_EP_ONLY_STIM /begin OUT_EP_CMD_STIM /end OUT_EP_CMD_STIM
+    /end OUT_EP_ONLY_STIM";
+
+/// The block is read in either order; it is refused with 9 where a `^` stands in these texts, or at their end.
+fn check_texts() {
+    let setting = |direction| Usb { header: 5, packing: 0, align: 4, size: 64, longest: 100, direction };
+    for entries in [format!("{OUT} {IN} {MORE}"), format!("{MORE} {IN} {MORE} {OUT}")] {
+        let text = format!("{HEAD} {entries} /end XCP_ON_USB");
+        assert_eq!(settings(text.as_bytes(), 100), Ok([setting(1), setting(0)]));
+        assert_eq!(settings(text.as_bytes(), 7), Err((1, 0)));
+        let long = text.clone() + &" ".repeat(16_385 - text.len());
+        assert_eq!(settings(&long.as_bytes()[1..], 100), Err((9, 0)));
+        assert_eq!(settings(&long.as_bytes()[..16_384], 100), Ok([setting(1), setting(0)]));
+        assert_eq!(settings(long.as_bytes(), 7), Err((2, 0)));
+    }
+    for refused in [
+        format!("{HEAD} {OUT} /begin ^OUT_EP_CMD_STIM 1"),
+        format!("{HEAD} {OUT} {IN} /end ^XCP_ON_USB_2"),
+        format!("{HEAD} {OUT} /begin A /begin B /end ^A /end B"),
+        format!("{HEAD} {OUT} {MORE} ^/end XCP_ON_USB"),
+        format!("{HEAD} {OUT} {IN} /end XCP_ON_USB ^X"),
+        format!("{HEAD} {OUT} /begin ^/end"),
+        format!("{HEAD} {OUT} {IN} /end XCP_ON_USB /*/"),
+        format!("{HEAD} {OUT} {IN} /end XCP_ON_USB \""),
+        format!("{HEAD} {OUT} {IN} /end // XCP_ON_USB"),
+        format!("{HEAD} {OUT} /begin A /begin B /end B"),
+    ] {
+        let place = refused.find('^').unwrap_or(refused.len());
+        assert_eq!(settings(refused.replace('^', "").as_bytes(), 100), Err((9, place as u32)), "{refused}");
+    }
+}
+
 pub fn check() {
+    check_texts();
     let twelve = "01 FE FF EE 03 FF 01 02 03 EE EE EE";
     let rows = |a, b| Read::Rows(vec![[2, 1, 254, a, 1], [6, 3, 255, b, 5]], known(0));
     assert_eq!(writes(&U1, "FF 01 02 03", &[1, 3], 254, 0xEE, false), wire(twelve, 0));

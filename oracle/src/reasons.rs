@@ -4,6 +4,8 @@
 //! that nothing is said of messages, frames, or the room they need. What follows a fault is read on where the layout starts anew: at the
 //! next data packet of a single or multiple transfer. Rows and bytes that need room are those left of the first fault.
 
+use crate::call::{FUNCTIONS, SETTINGS};
+use crate::description::{told, Ending, Wanted, LONGEST_TEXT, WANTED};
 use crate::rule::*;
 
 #[derive(Clone, Copy, Debug, PartialEq)]
@@ -11,7 +13,7 @@ pub enum Why {
     Setting,
     /// The state expected or the first counter.
     Ctr,
-    /// A transfer over 262,144 bytes.
+    /// A transfer over 262,144 bytes, or a text over 16,384.
     Long,
     /// Over 4,096 lengths.
     Count,
@@ -39,11 +41,21 @@ pub enum Why {
     Room,
     /// An output over 262,144 bytes.
     Far,
+    /// A word that cannot stand.
+    Wrong,
+    /// A text that stops early, outside of a comment or a string.
+    Early,
+    /// A text that stops inside a comment, or inside a string.
+    Comment,
+    Quote,
+    /// M, or X, of a setting that a text tells.
+    Size,
+    Longest,
 }
 
 use Why::*;
 
-pub const WHYS: usize = Far as usize + 1;
+pub const WHYS: usize = Longest as usize + 1;
 
 /// A reason and its place.
 pub type Fault = (Why, usize);
@@ -51,7 +63,7 @@ pub type Fault = (Why, usize);
 impl Why {
     pub fn number(self) -> u32 {
         match self {
-            Setting | Ctr => 1,
+            Setting | Ctr | Size | Longest => 1,
             Long | Count | Sum | Nothing | Several => 2,
             Zero | Over | Unfit => 3,
             Room | Far => 4,
@@ -59,6 +71,7 @@ impl Why {
             Short | Bare => 6,
             Node => 7,
             Odd | Ceiling => 8,
+            Wrong | Early | Comment | Quote => 9,
         }
     }
 
@@ -67,10 +80,10 @@ impl Why {
         match self {
             Setting | Ctr => 0,
             Long | Count | Sum | Nothing | Several | Odd | Ceiling => 1,
-            Short => 2,
-            Node => 3,
+            Short | Wrong => 2,
+            Node | Early | Comment | Quote => 3,
             Zero | Over | Unfit | Past | Bare => 4,
-            Room | Far => 5,
+            Room | Far | Size | Longest => 5,
         }
     }
 
@@ -88,19 +101,22 @@ const READER: &[Why] = &[Setting, Ctr, Long, Over, Past, Bare, Room];
 const FRAME_READER: &[Why] = &[Setting, Ctr, Odd, Ceiling, Short, Node, Bare, Past, Room];
 const WRITER: &[Why] = &[Setting, Ctr, Count, Sum, Zero, Over, Unfit, Room, Far];
 const FRAME_WRITER: &[Why] = &[Setting, Ctr, Count, Sum, Nothing, Several, Zero, Unfit, Room];
+const DESCRIPTION: &[Why] = &[Long, Wrong, Early, Comment, Quote, Size, Longest];
 
 /// The reasons of each function.
-pub const REASONS: [&[Why]; 8] = [READER, WRITER, FRAME_READER, FRAME_WRITER, &[Past], &[], READER, FRAME_READER];
+pub const REASONS: [&[Why]; FUNCTIONS] = [READER, WRITER, FRAME_READER, FRAME_WRITER, &[Past], &[], READER, FRAME_READER, DESCRIPTION];
 
-/// Reasons that never hold together of a frame that is read, or of a list that is written to a frame.
+/// Reasons that never hold together of a frame that is read, of a list that is written to a frame, or of a text.
 const APART_READ: [(Why, Why); 6] = [(Ceiling, Short), (Short, Room), (Bare, Bare), (Bare, Past), (Bare, Room), (Past, Past)];
 const APART_WRITE: [(Why, Why); 4] = [(Count, Nothing), (Nothing, Zero), (Nothing, Unfit), (Nothing, Room)];
+const APART_TEXT: [(Why, Why); 4] = [(Wrong, Early), (Early, Comment), (Early, Quote), (Comment, Quote)];
 
 /// Whether a call of the function can be refused for `a` while `b` holds too.
 pub fn meet(function: usize, a: Why, b: Why) -> bool {
     let apart: &[(Why, Why)] = match function {
         2 => &APART_READ,
         3 => &APART_WRITE,
+        SETTINGS => &APART_TEXT,
         _ => &[],
     };
     let once = a == b && !a.placed();
@@ -312,4 +328,45 @@ pub fn flexray_size(s: &FlexRay, lengths: &[u32]) -> usize {
 
 pub fn parts(n: usize, place: u32, length: u32) -> Vec<Fault> {
     held(place as usize, &[(Past, place as usize + length as usize > n)])
+}
+
+/// What is said of a text: of its words up to the first that cannot stand, of its end, and of the settings that it tells so far.
+pub fn description(text: &[u8], longest: u32) -> Vec<Fault> {
+    let told = told(text, longest);
+    let mut all = held(0, &[(Long, text.len() > LONGEST_TEXT)]);
+    all.extend(told.wrong.map(|place| (Wrong, place)));
+    let early = told.wrong.is_none() && told.ending == Ending::Outside && told.wanted != Wanted::Nothing;
+    let open = [(Early, early), (Comment, told.ending == Ending::Comment), (Quote, told.ending == Ending::Quote)];
+    all.extend(held(text.len(), &open));
+    let settings = || told.settings.iter().flatten();
+    let size = settings().any(|s| !usb_sound(&Usb { longest: 8, ..*s }));
+    let over = settings().any(|s| !usb_sound(&Usb { size: 8, ..*s }));
+    all.extend(held(0, &[(Size, size), (Longest, over)]));
+    all
+}
+
+/// What was wanted where a text is refused with 9, and why it was not there.
+pub fn stop(text: &[u8]) -> Option<(Wanted, Why)> {
+    let faults = description(text, 8);
+    let of = |why: &&Why| faults.iter().any(|fault| fault.0 == **why);
+    STOPS.iter().find(of).map(|why| (told(text, 8).wanted, *why))
+}
+
+pub const STOPS: [Why; 4] = [Wrong, Early, Comment, Quote];
+
+/// Whether a text can be refused so. Where any word can stand none is wrong, and behind the block the text may end. That an endpoint's
+/// name has come before is known where it stands.
+pub fn stops(wanted: Wanted, why: Why) -> bool {
+    match wanted {
+        Wanted::Close | Wanted::Inside => why != Wrong,
+        Wanted::Nothing => why != Early,
+        Wanted::Another => why == Wrong,
+        _ => true,
+    }
+}
+
+/// All ways in which a text is refused with 9.
+pub fn all_stops() -> Vec<(Wanted, Why)> {
+    let of = |&wanted: &Wanted| STOPS.iter().map(move |&why| (wanted, why)).filter(|&(wanted, why)| stops(wanted, why));
+    WANTED.iter().flat_map(of).collect()
 }

@@ -8,6 +8,9 @@
 //! A line has five numbers: 0 or the refusal's number; for rows the count, 1 or 0 for a state known or fresh, the counter expected;
 //! for written bytes the count, the next counter, 0; for a part its length, 0, 0; for a kind the kind, 0, 0; for a refusal its place,
 //! 0, 0; and the digest of all that was lent, or of the part. With the state lent, a refusal has the state as it is left in place of 0, 0.
+//!
+//! A text's record is two words, X and the number of bytes, and the bytes. Its line has fourteen numbers: 0 and 0, or the refusal's number
+//! and place; then the settings of OUT_EP_CMD_STIM and IN_EP_RESERR_DAQ_EVSERV, which are all 0 for a refusal.
 
 use crate::call::*;
 use crate::rule::*;
@@ -75,6 +78,14 @@ fn flexray(s: &FlexRay) -> [u32; 6] {
     [s.node, s.direction, s.ceiling, s.header, s.align, 0]
 }
 
+fn text_record(text: &[u8], longest: u32) -> Vec<u8> {
+    let mut out = Vec::new();
+    word(&mut out, longest);
+    word(&mut out, text.len() as u32);
+    out.extend_from_slice(text);
+    out
+}
+
 pub fn record(call: &Call) -> Vec<u8> {
     let none: Vec<u32> = Vec::new();
     let by_value = if let Call::Lent(call) = call { call } else { call };
@@ -90,6 +101,7 @@ pub fn record(call: &Call) -> Vec<u8> {
         Call::Part { t, place, length } => ([0; 6], [*place, *length, 0, 0], t, &none),
         Call::Kind { direction, packet } => ([*direction, 0, 0, 0, 0, 0], [0; 4], packet, &none),
         Call::Lent(_) => unreachable!("a state is lent once"),
+        Call::Settings { text, longest } => return text_record(text, *longest),
     };
     let mut body = Vec::new();
     let byte_count = byte_runs(&mut body, bytes);
@@ -133,6 +145,15 @@ fn read_numbers(read: &Read, lent: usize) -> [u32; 5] {
     }
 }
 
+fn text_line(answer: &Result<[Usb; 2], (u32, u32)>) -> String {
+    let numbers = match answer {
+        Ok(both) => [vec![0, 0], both.map(|s| usb(&s)).concat()].concat(),
+        Err((number, place)) => [vec![*number, *place], vec![0; 12]].concat(),
+    };
+    let words: Vec<String> = numbers.iter().map(u32::to_string).collect();
+    words.join(" ") + "\n"
+}
+
 pub fn line(call: &Call, answer: &Answer) -> String {
     let lent = lent(call);
     let n = match answer {
@@ -146,6 +167,7 @@ pub fn line(call: &Call, answer: &Answer) -> String {
         Answer::Part(Some((n, place)), part) => [*n, *place as u32, 0, 0, bytes_digest(part, 0)],
         Answer::Part(None, part) => [0, part.len() as u32, 0, 0, bytes_digest(part, 0)],
         Answer::Kind(kind) => [0, *kind, 0, 0, DIGEST],
+        Answer::Settings(answer) => return text_line(answer),
     };
     format!("{} {} {} {} {}\n", n[0], n[1], n[2], n[3], n[4])
 }

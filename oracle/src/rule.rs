@@ -2,7 +2,7 @@
 //! Numbers are wide and lists are owned, so that nothing here wraps or cuts.
 
 /// A USB endpoint's setting.
-#[derive(Clone, Copy, Debug)]
+#[derive(Clone, Copy, Debug, PartialEq)]
 pub struct Usb {
     pub header: u32,
     pub packing: u32,

@@ -4,15 +4,18 @@ ghost use mathlib.Core.Bool.{not};
 ghost use lib.Dec.{eqb};
 ghost use Rattle.packet.specs.Kind.{kindOf};
 ghost use Rattle.packet.specs.Part.{checkOf};
+ghost use Rattle.description.specs.Reading.{settingsOf};
 ghost use Rattle.flexray.specs.Reading.{readOf as flexrayReadOf};
 ghost use Rattle.flexray.specs.Writing.{writeOf as flexrayWriteOf};
 ghost use Rattle.usb.specs.Reading.{readOf as usbReadOf};
 ghost use Rattle.usb.specs.Writing.{writeOf as usbWriteOf};
-ghost use Rattle.plumagemud.specs.Result.{readResult, writeResult, checkResult, Reads, Writes};
+ghost use Rattle.plumagemud.specs.Result.{readResult, writeResult, checkResult, noSetting, settingsResult, Reads, Writes};
+use description::Described;
 use packet::Checked;
 use packet::Counter;
 use packet::Reading;
 use packet::Writing;
+use usb::Setting;
 
 // Number 0: value is the row count. Any other number: a refusal, value is its place, and counter is as it was given.
 #[repr(C)]
@@ -35,6 +38,15 @@ pub struct WriteResult {
 pub struct CheckResult {
     pub number: u32,
     pub place: u32,
+}
+
+// Number 0: both settings. Any other number: a refusal, place is its place, and the twelve numbers are 0.
+#[repr(C)]
+pub struct SettingsResult {
+    pub number: u32,
+    pub place: u32,
+    pub cmdstim: Setting,
+    pub resdaq: Setting,
 }
 
 fn told_read(c: Counter, r: Reading) -> ReadResult
@@ -86,9 +98,52 @@ fn told_check(r: Checked) -> CheckResult
     }
 }
 
+fn no_setting() -> Setting
+    ensures { λ r. ⌜ r ≡ noSetting ⌝ }
+{
+    Setting {
+        header: 0,
+        packing: 0,
+        align: 0,
+        datapacket: 0,
+        longest: 0,
+        direction: 0,
+    }
+}
+
+fn told_settings(d: Described) -> SettingsResult
+    ensures { λ x. ⌜ x ≡ settingsResult d ⌝ }
+{
+    match d {
+        Described::Both(cmd, res) => SettingsResult {
+            number: 0,
+            place: 0,
+            cmdstim: cmd,
+            resdaq: res,
+        },
+        Described::Refused(number, at) => {
+            let none = no_setting();
+            SettingsResult {
+                number: number,
+                place: at,
+                cmdstim: none,
+                resdaq: none,
+            }
+        }
+    }
+}
+
+#[no_mangle]
+pub extern "C" fn xcp_usb_settings(text: &[u8], longest: u32) -> SettingsResult
+    ensures { λ r. ⌜ r ≡ settingsResult (settingsOf (now (text .entry)) longest) ⌝ }
+{
+    let d = settings::settings(text, longest);
+    told_settings(d)
+}
+
 #[no_mangle]
 pub extern "C" fn xcp_usb_read(
-    s: usb::Setting,
+    s: Setting,
     transfer: &[u8],
     c: Counter,
     rows: &mut [u32],
@@ -102,7 +157,7 @@ pub extern "C" fn xcp_usb_read(
 // Filled up where fillup is not 0.
 #[no_mangle]
 pub extern "C" fn xcp_usb_write(
-    s: usb::Setting,
+    s: Setting,
     packets: &[u8],
     lengths: &[u32],
     first: u32,

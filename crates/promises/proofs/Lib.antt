@@ -1,4 +1,8 @@
 pub mod Call
+pub mod Description
+pub mod DescriptionLimits
+pub mod DescriptionNumbers
+pub mod Fitting
 pub mod Flexray
 pub mod FlexrayLimits
 pub mod Limits

@@ -1,5 +1,5 @@
 -- For every input a contract determines what its function answers, and what it leaves of what was lent: any two results that it allows are equal. One line
--- for each public function that asks nothing, about the contract that stands in its code (`Post`: see Tied), and for rowtext's report and two of layout's.
+-- for each public function that asks nothing, about the contract that stands in its code (`Post`: see Tied), and for both programs' report and two of layout's.
 -- The exceptions are listed in docs/DECISIONS.md, 'What a contract leaves open'.
 use Prim.Native.Nat.{ℕ}
 use mathlib.Core.Path.{_≡_, sym, ap, _∙_}
@@ -32,6 +32,7 @@ use Rattle.usb_plan.proofs.PlanLaws as UsbPlans
 use Rattle.usb_plan.proofs.plan_for.Reads as UsbPlanFor
 use Rattle.usb_reader.proofs.read.Reads as UsbRead
 use Rattle.usb_writer.proofs.write.Reads as UsbWrite
+use Rattle.settings.proofs.settings.Reads as Settings
 use Rattle.flexray.proofs.listed.Reads as FlexRayListed
 use Rattle.flexray_plan.proofs.PlanLaws as FlexRayPlans
 use Rattle.flexray_plan.proofs.plan_for.Reads as FlexRayPlanFor
@@ -41,9 +42,12 @@ use Rattle.lending.specs.declared.Lent.{Lent}
 use Rattle.lending.specs.Lends.{Lends}
 use Rattle.lending.proofs.usb_lent.Reads as LendUsb
 use Rattle.lending.proofs.flexray_lent.Reads as LendFlexRay
-use Rattle.rowtext.proofs.ReportLaws.{one-report}
+use Rattle.spelling.proofs.ReportLaws.{one-report}
 use Rattle.rowtext.proofs.report.Reads as Report
+use Rattle.settingtext.proofs.argument.Reads as Argument
+use Rattle.settingtext.proofs.report.Reads as SettingReport
 use Rattle.plumagemud.proofs.ResultLaws.{one-read, one-written}
+use Rattle.plumagemud.proofs.xcp_usb_settings.Reads as CSettings
 use Rattle.plumagemud.proofs.xcp_usb_read.Reads as CUsbRead
 use Rattle.plumagemud.proofs.xcp_usb_write.Reads as CUsbWrite
 use Rattle.plumagemud.proofs.xcp_flexray_read.Reads as CFlexRayRead
@@ -98,6 +102,9 @@ lending-flexray x a r u e f = one-lent
 
 ---- C --------------------------------------------------------------------------------------------------------------------------
 
+pub c-settings : (x : _) (a : _) → One (CSettings.Post x a)
+c-settings x a r u e f = same
+
 pub c-usb-read : (x : _) (a : _) → Both (λ e. e .1 .1 .1 .0 .now) (CUsbRead.Post x a)
 c-usb-read x a r u e f = one-read
 
@@ -116,13 +123,24 @@ c-part-check x a r u e f = same
 pub c-kind : (x : _) (a : _) → One (CKind.Post x a)
 c-kind x a r u e f = same
 
----- The program ----------------------------------------------------------------------------------------------------------------
+---- The programs ---------------------------------------------------------------------------------------------------------------
 
 -- the length of the text, and the output; what is left of the table is not told (docs/DECISIONS.md)
 pub report : (x : _) (a : _) → Both (λ e. e .1 .1 .0 .now) (Report.Post x a)
 report x a r u e f = one-report
 
+pub setting-report : (x : _) (a : _) → Both (λ e. e .1 .1 .0 .now) (SettingReport.Post x a)
+setting-report x a r u e f = one-report
+
+-- the longest packet, from the program's argument
+pub argument : (x : _) (a : _) → One (Argument.Post x a)
+argument x a r u e f = same
+
 ---- Settings -------------------------------------------------------------------------------------------------------------------
+
+-- from the description file
+pub settings : (x : _) (a : _) → One (Settings.Post x a)
+settings x a r u e f = same
 
 pub usb-shape : (x : _) (a : _) → One (UsbShape.Post x a)
 usb-shape x a r u e f = same

@@ -1,13 +1,13 @@
--- The promises: open this file first. It goes through the three demands, for USB and for FlexRay. Each theorem is about any answer r that the contract of
--- a function allows, and about the lent table or output as the call then leaves it (`left`). Tied shows that these are the functions' own contracts, as
--- the code states them, and OneResult that each allows one answer only.
--- What is cited here says more: Usb and Flexray for each transport, Call and Numbers for what both share, Starred and the tables of limits for the
--- examples, ShutOut for programs shut out.
+-- The promises: open this file first. It goes through the three demands, for USB, for FlexRay, and for the settings from the description file. Each
+-- theorem is about any answer r that the contract of a function allows, and about the lent table or output as the call then leaves it (`left`). Tied shows
+-- that these are the functions' own contracts, as the code states them, and OneResult that each allows one answer only.
+-- What is cited here says more: Usb and Flexray for each transport, Call and Numbers for what both share, Description and Fitting for the settings, Starred
+-- and the tables of limits for the examples, ShutOut for programs shut out.
 use Prim.Native.Nat.{ℕ, _+_, _*_, _%_, _^_, _<_, _≤_}
 use native.Mathlib.Omega.{arith}
 use mathlib.Core.Path.{_≡_, refl}
 use mathlib.Core.Bool.{Bool, true, or-true}
-use mathlib.Core.Logic.{_↔_}
+use mathlib.Core.Logic.{_↔_, _⊎_}
 use mathlib.Core.List.{List, [], _∷_, map}
 use lib.ListN.{length, take, drop}
 use borrow.Author.Tests.{le-leb, ne-eqb}
@@ -35,6 +35,15 @@ use Rattle.usb.specs.Layout.{Transfer}
 use Rattle.usb.specs.Refusal as UsbRefusal
 use Rattle.usb.specs.Reading as UsbReading
 use Rattle.usb.specs.Writing as UsbWriting
+use Rattle.words.specs.Words.{Word, Parts}
+use Rattle.words.specs.Spaced.{Spaced}
+use Rattle.words.proofs.PartLaws as Parting
+use Rattle.keywords.specs.Tables.{Text}
+use Rattle.description.specs.declared.Described.{Described}
+use Rattle.description.specs.declared.Described.the-variants as D
+use Rattle.description.specs.declared.Said.{Said}
+use Rattle.description.specs.Block.{Block}
+use Rattle.description.specs.Standing.{Stops, Describes, Refusal, Accept, cmdSetting, resSetting}
 use Rattle.flexray.specs.declared.Setting as FlexRaySetting
 use Rattle.flexray.specs.Setting as FlexRaySize
 use Rattle.flexray.specs.Layout.{Frame}
@@ -44,6 +53,7 @@ use Rattle.flexray.specs.Writing as FlexRayWriting
 use Rattle.flexray.specs.Row.{frameTable, frameState}
 use Rattle.plumagemud.specs.declared.CheckResult.{CheckResult}
 use Rattle.plumagemud.specs.declared.ReadResult.{ReadResult}
+use Rattle.plumagemud.specs.declared.SettingsResult.{SettingsResult}
 use Rattle.plumagemud.specs.declared.WriteResult.{WriteResult}
 use Rattle.plumagemud.specs.Result.{checkResult, Reads, Writes}
 use Rattle.promises.proofs.Call as Call
@@ -51,6 +61,11 @@ use Rattle.promises.proofs.Call.{IsRows, Given}
 use Rattle.promises.proofs.Numbers.{Numbers, ReadNumbers, lent-numbers, c-reads, c-writes}
 use Rattle.promises.proofs.Usb as Usb
 use Rattle.promises.proofs.Flexray as Flexray
+use Rattle.promises.proofs.Description as Description
+use Rattle.promises.proofs.Description.{IsBoth, Decided}
+use Rattle.promises.proofs.DescriptionLimits as DescriptionLimits
+use Rattle.promises.proofs.DescriptionNumbers as DescriptionNumbers
+use Rattle.promises.proofs.Fitting.{Fits, Pair, Reaches, NoBlock, Unsound}
 use Rattle.promises.proofs.FlexrayLimits as FlexrayLimits
 use Rattle.promises.proofs.Limits as Limits
 use Rattle.promises.proofs.Starred as Starred
@@ -62,6 +77,10 @@ use Rattle.promises.proofs.UsbLimits as UsbLimits
 -- answer meets a contract, for every input:
 pub answered : {E : Type 0} (a : Answer E) → (r : E) × (left : List ℕ) × Gives a r left
 answered = Call.answered
+
+-- and that the rules of the description file decide every text, in one way only (Description `accept-only`, `refusal-only`, `never-both`):
+pub decided : (t : List ℕ) (x : ℕ) → Decided t x
+decided = Description.decided
 
 -- usb_reader::read
 module _ (s : UsbSetting.Setting) (t : List ℕ) (c : Counter) (rows : List ℕ) {r : Reading} {left : List ℕ}
@@ -112,6 +131,30 @@ module _ (s : FlexRaySetting.Setting) (bs ns : List ℕ) (c fill : ℕ) (out : L
 
   pub flexray-write-unchanged : r ≡ W.Refused n p → (0 < n) × (n ≤ 8) × (left ≡ out)
   flexray-write-unchanged = Flexray.writes s bs ns c fill out call .refusal n p
+
+-- settings::settings, of a text t and the longest packet x
+module _ (t : List ℕ) (x : ℕ) {r : Described} (call : Description.Reads t x r) (p : ℕ) where
+  pub settings-refused : (n : ℕ) → (r ≡ D.Refused n p) ↔ Refusal t x n p
+  settings-refused n = Description.reads t x call .refused n p
+
+  pub settings-number : (n : ℕ) → r ≡ D.Refused n p → ((n ≡ 1) ⊎ ((n ≡ 2) ⊎ (n ≡ 9))) × (p ≤ length t)
+  settings-number n = Description.reads t x call .refusal n p
+
+  -- 2 exactly if the text is too long; 9 exactly if the word at p is the first that cannot stand, or all can and the text stops early, at p; 1 exactly if
+  -- the text is a block whose settings are not both sound
+  pub settings-long : (r ≡ D.Refused 2 p) ↔ ((p ≡ 0) × (16384 < length t))
+  settings-long = Description.reads t x call .long p
+
+  pub settings-wrong : (r ≡ D.Refused 9 p) ↔ ((length t ≤ 16384) × NoBlock t p)
+  settings-wrong = Description.reads t x call .wrong p
+
+  pub settings-unsound : (r ≡ D.Refused 1 p) ↔ ((p ≡ 0) × (length t ≤ 16384) × Unsound t x)
+  settings-unsound = Description.reads t x call .unsound p
+
+  -- so a word that cannot stand behind the words ts is refused at its place: a second endpoint, a missing one, a wrong name and a word behind the block are
+  -- such words (Description `second`, `missing`, `wrong-name`, `behind`)
+  pub settings-stopped : length t ≤ 16384 → {ts : List Text} {w : Text} → Stops ts w → Reaches t ts w p → r ≡ D.Refused 9 p
+  settings-stopped short = Description.stopped t x call short
 
 -- packet::part_check and packet::part: a part that runs past the input is refused with 5 at its place, and is empty; any other shows exactly its bytes
 module _ (t : List ℕ) (p n : ℕ) {r : Checked} (check : r ≡ checkOf t p n) {shown : List ℕ} (part : shown ≡ partOf t p n) where
@@ -198,6 +241,30 @@ module _ (s : FlexRaySetting.Setting) (t : List ℕ) (c : Counter) (rows : List 
       → (r ≡ R.Rows (length ms) (frameState (FlexRaySize.W s) c ms)) × Given (Flexray.rules s t c rows) left ms
   flexray-gives = Flexray.reads s t c rows call .gives
 
+-- The settings reader likewise: a text is accepted exactly if it parts into the words of a block with sound settings (`Fits`), at most one block is what it
+-- says, and the settings given are those of that block
+module _ (t : List ℕ) (x : ℕ) {r : Described} (call : Description.Reads t x r) where
+  pub settings-accepts : IsBoth r ↔ ((s : Said) × Fits t x s)
+  settings-accepts = Description.reads t x call .demand
+
+  pub settings-gives : (s : Said) → Fits t x s → (r ≡ D.Both (cmdSetting s x) (resSetting s x)) × ((u : Said) → Describes t u → u ≡ s)
+  settings-gives = Description.reads t x call .gives
+
+  pub settings-accepted : (c d : UsbSetting.Setting) → (r ≡ D.Both c d) ↔ Accept t x c d
+  settings-accepted = Description.reads t x call .accepted
+
+  -- such settings are sound, with one header, directions 1 and 0, and x: usb_reader::read does not refuse them with 1 (Description `sound-read`)
+  pub settings-pair : (c d : UsbSetting.Setting) → r ≡ D.Both c d → Pair x c d
+  settings-pair = Description.reads t x call .pair
+
+-- a text parts into words in one way only; and however the words of a block are written out, with any blanks and comments between them, they read the same
+pub parts-only : {t : List ℕ} {vs ws : List Word} {c d : Bool} → Parts 0 t vs c → Parts 0 t ws d → (vs ≡ ws) × (c ≡ d)
+parts-only = Parting.parts-unique
+
+pub settings-same : {s : Said} {ws : List Text} {t u : List ℕ} (x : ℕ) {r v : Described} → Description.Reads t x r → Description.Reads u x v
+    → Spaced ws t → Spaced ws u → length t ≤ 16384 → length u ≤ 16384 → Block s ws → r ≡ v
+settings-same = Description.reads-same
+
 ---- In numbers: what a C caller gets, and one that lends the state -----------------------------------------------------------------
 
 -- `Numbers Refusal Accept lent c n v d left` says of a call with the state or counter c that tells number n, value v and d, and leaves what was lent at `left`:
@@ -248,6 +315,12 @@ module _ (s : FlexRaySetting.Setting) (bs ns : List ℕ) (c fill : ℕ) (out : L
   pub xcp-flexray-bytes : x .number ≡ 0 → Flexray.Writes s bs ns c fill out (W.Bytes (x .value) (x .counter)) left
   xcp-flexray-bytes = Flexray.writes-accepted s bs ns c fill out (c-writes call)
 
+-- xcp_usb_settings: number 0 with place 0 and the settings exactly if they are accepted; a number above 0 and its place exactly if the text is refused so, and
+-- then all twelve numbers of the settings are 0
+module _ (t : List ℕ) (x : ℕ) {y : SettingsResult} (call : DescriptionNumbers.Tells t x y) where
+  pub xcp-usb-settings : DescriptionNumbers.Numbers t x y
+  xcp-usb-settings = DescriptionNumbers.numbers t x call
+
 -- xcp_part_check; xcp_kind has the contract of packet::kind, so that `kind-from-slave` and `kind-from-master` hold of it
 module _ (t : List ℕ) (p n : ℕ) {x : CheckResult} (call : x ≡ checkResult (checkOf t p n)) where
   pub xcp-part-refused : length t < p + n → (x .number ≡ 5) × (x .place ≡ p)
@@ -275,6 +348,11 @@ usb-limits = UsbLimits.usb-limits
 pub flexray-limits : (map (λ x. x .gives) FlexrayLimits.frames ≡ map (λ x. x .is) FlexrayLimits.frames)
     × (map (λ x. x .gives) FlexrayLimits.calls ≡ map (λ x. x .is) FlexrayLimits.calls)
 flexray-limits = FlexrayLimits.flexray-limits
+
+-- what words say, and texts with their settings or the place where they are refused
+pub description-limits : (map (λ x. x .gives) DescriptionLimits.words ≡ map (λ x. x .is) DescriptionLimits.words)
+    × (map (λ x. x .gives) DescriptionLimits.texts ≡ map (λ x. x .is) DescriptionLimits.texts)
+description-limits = DescriptionLimits.description-limits
 
 -- any two results that a contract allows are equal; OneResult says it of each function's own contract
 pub one-result : {E : Type 0} {a : Answer E} {r u : E} {left past : List ℕ} → Gives a r left → Gives a u past → (r ≡ u) × (left ≡ past)

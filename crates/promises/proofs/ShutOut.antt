@@ -1,5 +1,6 @@
 -- Programs that must not get through (document 01, 'How tight the contracts are'). A program here is any function from inputs to an answer and what it
--- leaves of what was lent; if it meets the contract, the examples of Starred and two frames of FlexrayLimits show what it is not.
+-- leaves of what was lent; if it meets the contract, the examples of Starred, two frames of FlexrayLimits and two texts of DescriptionLimits show what it
+-- is not.
 use Prim.Native.Nat.{ℕ, _<_}
 use native.Mathlib.Omega.{arith}
 use mathlib.Core.Path.{_≡_, sym, ap, _∙_}
@@ -17,9 +18,15 @@ use Rattle.packet.proofs.AnswerLaws.{gives, one-result}
 use Rattle.usb.specs.declared.Setting as UsbSetting
 use Rattle.usb.specs.Reading as UsbReading
 use Rattle.usb.specs.Writing as UsbWriting
+use Rattle.words.specs.Words.{ascii}
+use Rattle.description.specs.declared.Described.{Described}
+use Rattle.description.specs.declared.Described.the-variants as D
 use Rattle.flexray.specs.declared.Setting as FlexRaySetting
 use Rattle.flexray.specs.Reading as FlexRayReading
 use Rattle.flexray.specs.Writing as FlexRayWriting
+use Rattle.promises.proofs.Description as Description
+use Rattle.promises.proofs.DescriptionLimits.{block, both, texts, description-limits}
+use Rattle.promises.proofs.Fitting.{no-refusal}
 use Rattle.promises.proofs.Starred.{U1, R, R0, twelve, two, spare, expecting, Result, Result.read, Result.wrote, examples, starred}
 use Rattle.promises.proofs.FlexrayLimits.{frame, frames, flexray-limits}
 
@@ -33,6 +40,10 @@ line i = ap (λ l. getD l i none) starred
 -- how the frame of a number is read, in the table of frames
 frame-line : (i : ℕ) → getD (map (λ x. x .gives) frames) i (none, none) .1 ≡ getD (map (λ x. x .is) frames) i (none, none) .1
 frame-line i = ap (λ (l : List (Result × Result)). getD l i (none, none) .1) (flexray-limits .0)
+
+-- what a text is answered, in the table of texts
+text-line : (i : ℕ) → getD (map (λ x. x .gives) texts) i (D.Refused 0 0) ≡ getD (map (λ x. x .is) texts) i (D.Refused 0 0)
+text-line i = ap (λ l. getD l i (D.Refused 0 0)) (description-limits .1)
 
 same-read : {a b : Answer Reading} → read a ≡ read b → a ≡ b
 same-read e = cc
@@ -194,3 +205,25 @@ module _ (f : FlexRaySetting.Setting → List ℕ → List ℕ → ℕ → ℕ �
   -- it does not leave every output as it was
   pub framer-idle : ((bs ns : List ℕ) → framed bs ns .lent ≡ spare 16) → ⊥
   framer-idle h = omega (arith, starts (sym (framer-gives .1) ∙ h (0xFF ∷ []) (1 ∷ [])))
+
+---- The settings reader --------------------------------------------------------------------------------------------------------
+
+module _ (f : List ℕ → ℕ → Described) (meets : (t : List ℕ) (x : ℕ) → Description.Reads t x (f t x)) where
+  -- it gives the settings of a block, each endpoint's own
+  pub settings-gives : f (block []) 64 ≡ both 64
+  unfolding texts
+  settings-gives = meets (block []) 64 ∙ text-line 0
+
+  -- it does not refuse everything
+  pub settings-refuses : ((t : List ℕ) → (n : ℕ) × (p : ℕ) × (f t 64 ≡ D.Refused n p)) → ⊥
+  settings-refuses h =
+      let (n, p, e) = h (block []) in
+      no-refusal (sym settings-gives ∙ e)
+
+  -- it does not pass over a word behind the block, and so has no fixed answer
+  pub settings-behind : f (block [] ++ ascii " A B") 64 ≡ D.Refused 9 300
+  unfolding texts
+  settings-behind = meets (block [] ++ ascii " A B") 64 ∙ text-line 13
+
+  pub settings-fixed : (d : Described) → ((t : List ℕ) → f t 64 ≡ d) → ⊥
+  settings-fixed d h = no-refusal (sym settings-gives ∙ h (block []) ∙ sym (h (block [] ++ ascii " A B")) ∙ settings-behind)

@@ -22,6 +22,7 @@ use Rattle.usb.specs.Writing.{writeOf as usbWriteOf}
 use Rattle.usb_reader.proofs.read.Reads as UsbRead
 use Rattle.usb_reader.proofs.read_lent as UsbLent
 use Rattle.usb_writer.proofs.write.Reads as UsbWrite
+use Rattle.settings.proofs.settings.Reads as Settings
 use Rattle.flexray.specs.Reading.{readOf as flexrayReadOf}
 use Rattle.flexray.specs.Writing.{writeOf as flexrayWriteOf}
 use Rattle.flexray_reader.proofs.read.Reads as FlexRayRead
@@ -29,16 +30,25 @@ use Rattle.flexray_reader.proofs.read_lent as FlexRayLent
 use Rattle.flexray_writer.proofs.write.Reads as FlexRayWrite
 use Rattle.lending.proofs.usb_lent.Reads as LendUsb
 use Rattle.lending.proofs.flexray_lent.Reads as LendFlexRay
-use Rattle.rowtext.specs.Put.{Prepared, Reports}
+use Rattle.spelling.specs.Put.{Reports}
+use Rattle.rowtext.specs.Put.{Prepared}
 use Rattle.rowtext.specs.Text.{programText}
 use Rattle.rowtext.proofs.report.Reads as Report
+use Rattle.blocks.specs.Blocks.{Inside}
+use Rattle.keywords.specs.Saying.{told as meant}
+use Rattle.settingtext.specs.Text.{argument as argumentOf, programText as settingText}
+use Rattle.settingtext.proofs.argument.Reads as Argument
+use Rattle.settingtext.proofs.report.Reads as SettingReport
 use Rattle.plumagemud.specs.Result.{checkResult, Reads, Writes}
+use Rattle.plumagemud.proofs.xcp_usb_settings.Reads as CSettings
 use Rattle.plumagemud.proofs.xcp_usb_read.Reads as CUsbRead
 use Rattle.plumagemud.proofs.xcp_usb_write.Reads as CUsbWrite
 use Rattle.plumagemud.proofs.xcp_flexray_read.Reads as CFlexRayRead
 use Rattle.plumagemud.proofs.xcp_flexray_write.Reads as CFlexRayWrite
 use Rattle.plumagemud.proofs.xcp_part_check.Reads as CCheck
 use Rattle.plumagemud.proofs.xcp_kind.Reads as CKind
+use Rattle.promises.proofs.Description as Description
+use Rattle.promises.proofs.DescriptionNumbers as DescriptionNumbers
 use Rattle.promises.proofs.Usb as Usb
 use Rattle.promises.proofs.Flexray as Flexray
 
@@ -67,6 +77,12 @@ pub flexray-write : (x : _) (a : _) (r : _) (e : _) → FlexRayWrite.Asked x a
     × (FlexRayWrite.Post x a r e → Flexray.Writes (a .0) (a .1 .0 .now) (a .1 .1 .0 .now) (a .1 .1 .1 .0) (a .1 .1 .1 .1 .0)
     (a .1 .1 .1 .1 .1 .0 .now) r (e .1 .1 .1 .1 .1 .0 .now))
 flexray-write x a r e = (tt, λ p. p)
+
+---- The description file -------------------------------------------------------------------------------------------------------
+
+-- settings::settings
+pub settings : (x : _) (a : _) (r : _) (e : _) → Settings.Asked x a × (Settings.Post x a r e → Description.Reads (a .0 .now) (a .1 .0) r)
+settings x a r e = (tt, λ p. p)
 
 ---- The state lent -------------------------------------------------------------------------------------------------------------
 
@@ -118,6 +134,10 @@ part x a r e = (tt, λ p. p)
 
 ---- C --------------------------------------------------------------------------------------------------------------------------
 
+-- xcp_usb_settings
+pub c-settings : (x : _) (a : _) (r : _) (e : _) → CSettings.Asked x a × (CSettings.Post x a r e → DescriptionNumbers.Tells (a .0 .now) (a .1 .0) r)
+c-settings x a r e = (tt, λ p. p)
+
 -- xcp_usb_read
 pub c-usb-read : (x : _) (a : _) (r : _) (e : _) → CUsbRead.Asked x a
     × (CUsbRead.Post x a r e → Reads (usbReadOf (a .0) (a .1 .0 .now) (a .1 .1 .0) (a .1 .1 .1 .0 .now)) (a .1 .1 .0) r (e .1 .1 .1 .0 .now))
@@ -149,9 +169,18 @@ c-check x a r e = (tt, λ p. p)
 pub c-kind : (x : _) (a : _) (r : _) (e : _) → CKind.Asked x a × (CKind.Post x a r e → r ≡ kindOf (a .0) (a .1 .0 .now))
 c-kind x a r e = (tt, λ p. p)
 
----- The program ----------------------------------------------------------------------------------------------------------------
+---- The programs ---------------------------------------------------------------------------------------------------------------
 
--- rowtext::report is no entry point, but what the program prints comes from it. It asks for a table and an output that are large enough, and no more
+-- report of rowtext and of settingtext are no entry points, but what the programs print comes from them. They ask for a table and an output that are large
+-- enough, and no more
 pub report : (x : _) (a : _) (r : _) (e : _) → (Report.Asked x a ≡ Prepared (a .1 .1 .0 .now) (a .1 .0 .now))
     × (Report.Post x a r e → Reports (a .1 .1 .0 .now) (programText (a .0 .now)) (e .1 .1 .0 .now) r)
 report x a r e = (refl, λ p. p)
+
+pub setting-report : (x : _) (a : _) (r : _) (e : _) → (SettingReport.Asked x a ≡ Inside (a .1 .1 .0 .now) 0 149)
+    × (SettingReport.Post x a r e → Reports (a .1 .1 .0 .now) (settingText (a .0 .now) (a .1 .0)) (e .1 .1 .0 .now) r)
+setting-report x a r e = (refl, λ p. p)
+
+-- settingtext::argument
+pub argument : (x : _) (a : _) (r : _) (e : _) → Argument.Asked x a × (Argument.Post x a r e → r ≡ meant (argumentOf (a .0) (a .1 .0 .now)))
+argument x a r e = (tt, λ p. p)

@@ -8,7 +8,8 @@ use Rattle.packet.specs.Counter.{gap, next, later, advance}
 use Rattle.packet.specs.Row.{row, table}
 use Rattle.usb.specs.Setting as U
 use Rattle.usb.specs.Reading as R
-use Rattle.rowtext.specs.Text.{spelled, decimal, lines, programText}
+use Rattle.spelling.specs.Text.{spelled, decimal}
+use Rattle.rowtext.specs.Text.{lines, programText}
 
 abbrev inputs : List (List ℕ)
 inputs = (1 ∷ 254 ∷ 255 ∷ 238 ∷ 3 ∷ 255 ∷ 1 ∷ 2 ∷ 3 ∷ 238 ∷ 238 ∷ 238 ∷ []) ∷ (65 ∷ 0 ∷ []) ∷ [] ∷ []

@@ -1,4 +1,3 @@
 pub mod Example
 pub mod ReportLaws
 pub mod RowsLaws
-pub mod TextLaws

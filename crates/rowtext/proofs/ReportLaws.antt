@@ -20,8 +20,9 @@ use Rattle.usb.specs.Setting.{W}
 use Rattle.usb.specs.Reading.{judged, readOf}
 use Rattle.usb.proofs.ReadLaws.{read-sound}
 use Rattle.usb.proofs.RefusalLaws.{accepted-exactly}
-use Rattle.rowtext.specs.Text.{lines, refusedText, told, textOf, said, programText, u1}
-use Rattle.rowtext.specs.Put.{Within, Roomy, Tellable, Prepared, Reports}
+use Rattle.spelling.specs.Text.{refusedText}
+use Rattle.rowtext.specs.Text.{lines, told, textOf, said, programText, u1}
+use Rattle.rowtext.specs.Put.{Within, Roomy, Tellable, Prepared}
 
 ---- An answer ------------------------------------------------------------------------------------------------------------------
 
@@ -89,15 +90,8 @@ pub long-text : (t : List ℕ) → 8192 < length t → refusedText 2 0 ≡ progr
 unfolding programText
 long-text t h = rw (lt-ltb 8192 (length t) h)
 
-pub tells-so : {old text other new : List ℕ} {r : ℕ} → Reports old text new r → text ≡ other → Reports old other new r
-tells-so k e = rw (← e) k
-
 pub roomy : {out rows : List ℕ} → Prepared out rows → Roomy out rows
 roomy p = record { lines = p .room; refusal = omega (arith, p .room, p .table) }
 
 pub told-text : {a : Answer Reading} {r : Reading} {new : List ℕ} → Gives a r new → told r new ≡ textOf a
 told-text g = rw (g .answer, g .lent)
-
--- any two results that the contract allows are equal
-pub one-report : {old text new past : List ℕ} {r u : ℕ} → Reports old text new r → Reports old text past u → (r ≡ u) × (new ≡ past)
-one-report k l = (k .count ∙ sym (l .count), k .bytes ∙ sym (l .bytes))

@@ -10,8 +10,11 @@ use Rattle.packet.specs.declared.Counter.{Counter}
 use Rattle.packet.specs.declared.Reading.{Reading}
 use Rattle.packet.specs.declared.Reading.the-variants as R
 use Rattle.layout.proofs.RunLaws.{sets-append}
-use Rattle.rowtext.specs.Text.{rowText, lineOf, lines, refusedText, told}
-use Rattle.rowtext.specs.Put.{Puts, Reports, Rowed, Listed, Tellable}
+use Rattle.spelling.specs.Put.{Puts, Reports}
+use Rattle.spelling.specs.Text.{refusedText}
+use Rattle.spelling.proofs.ReportLaws.{tells}
+use Rattle.rowtext.specs.Text.{rowText, lineOf, lines, told}
+use Rattle.rowtext.specs.Put.{Rowed, Listed, Tellable}
 
 ---- A row ----------------------------------------------------------------------------------------------------------------------
 
@@ -74,9 +77,6 @@ module _ {old rows : List ℕ} {k : ℕ} {out : List ℕ} {at i : ℕ} (l : List
       }
 
 ---- An answer ------------------------------------------------------------------------------------------------------------------
-
-pub tells : {old text new : List ℕ} {n r : ℕ} → Puts old 0 text n new r → n ≤ length old → Reports old text new r
-tells p h = record { bytes = p .bytes; count = omega (arith, p .next); inside = omega (arith, p .most, p .long) }
 
 pub listed : {out rows : List ℕ} {k : ℕ} {d : Counter} → Tellable out rows (R.Rows k d) → {n : ℕ} → n ≡ k → Listed out rows n
 listed t e = record { room = omega (arith, t .within, t .roomy .lines); inside = omega (arith, t .within) }

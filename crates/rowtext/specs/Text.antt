@@ -1,8 +1,7 @@
 -- The program's text (document 01, 'Examples'): a line for each row, five decimal numbers with one space between; or the one line of a refusal.
--- Bytes are ASCII: a space is 32, a line's end is 10, the digits are 48 to 57.
-use Prim.Native.Nat.{ℕ, zero, suc, _+_, _/_, _%_}
+use Prim.Native.Nat.{ℕ, zero, suc}
 use mathlib.Core.Bool.{cond}
-use mathlib.Core.List.{List, [], _∷_, _++_}
+use mathlib.Core.List.{List, [], _++_}
 use lib.ListN.{length, getD, drop}
 use lib.Dec.{ltb}
 use Rattle.layout.specs.Walk.{Out, Out.list, Out.refused}
@@ -15,19 +14,7 @@ use Rattle.packet.specs.Counter.{fresh}
 use Rattle.usb.specs.declared.Setting.{Setting}
 use Rattle.usb.specs.Setting.{W}
 use Rattle.usb.specs.Reading.{judged}
-
--- the digits of n, the last behind those of n / 10; a number below 10 has one. At most so many stand before the last
-unfoldable pub spelled : ℕ → ℕ → List ℕ
-spelled zero n = (48 + n % 10) ∷ []
-spelled (suc most) n = cond (ltb n 10) [] (spelled most (n / 10)) ++ ((48 + n % 10) ∷ [])
-
--- no more than n stand before the last
-unfoldable pub decimal : ℕ → List ℕ
-decimal n = spelled n n
-
--- a number, and the byte behind it
-abbrev pub word : ℕ → ℕ → List ℕ
-word n behind = decimal n ++ (behind ∷ [])
+use Rattle.spelling.specs.Text.{word, refusedText}
 
 abbrev pub rowText : (place length counter gap kind : ℕ) → List ℕ
 rowText a b c d e = word a 32 ++ (word b 32 ++ (word c 32 ++ (word d 32 ++ word e 10)))
@@ -40,13 +27,6 @@ lineOf xs = rowText (getD xs 0 0) (getD xs 1 0) (getD xs 2 0) (getD xs 3 0) (get
 unfoldable pub lines : ℕ → List ℕ → List ℕ
 lines zero xs = []
 lines (suc k) xs = lineOf xs ++ lines k (drop 5 xs)
-
--- `refused `
-abbrev pub refusedWord : List ℕ
-refusedWord = 114 ∷ 101 ∷ 102 ∷ 117 ∷ 115 ∷ 101 ∷ 100 ∷ 32 ∷ []
-
-abbrev pub refusedText : (number place : ℕ) → List ℕ
-refusedText n p = refusedWord ++ (word n 32 ++ word p 10)
 
 -- what is told of an answer, with the table as the call left it
 abbrev pub told : Reading → List ℕ → List ℕ

@@ -3,35 +3,17 @@ ghost use mathlib.Core.Path.{_≡_};
 ghost use Prim.Native.Nat.{_*_};
 ghost use lib.ListN.{drop};
 ghost use Rattle.packet.specs.Counter.{fresh};
-ghost use Rattle.blocks.specs.Blocks.{Inside};
 ghost use Rattle.usb.specs.Reading.{readOf};
-ghost use Rattle.rowtext.specs.Put.{Spelt, Puts, Reports, Rowed, Listed, Roomy, Tellable, Prepared};
-ghost use Rattle.rowtext.specs.Text.{word, lineOf, lines, refusedText, told, textOf, programText, u1 as u1Of};
+ghost use Rattle.spelling.specs.Put.{Puts, Reports};
+ghost use Rattle.rowtext.specs.Put.{Rowed, Listed, Roomy, Tellable, Prepared};
+ghost use Rattle.rowtext.specs.Text.{lineOf, lines, told, textOf, programText, u1 as u1Of};
 use layout::wide32;
 use packet::Counter;
 use packet::Reading;
-use store::put_packet;
+use spelling::put_refusal;
+use spelling::put_word;
 use usb::Setting;
 use usb_reader::read;
-
-// A number's decimal digits at the front of a text, and how many there are.
-fn spell(n: u32, text: &mut [u8; 20]) -> usize
-    ensures { λ r. ⌜ Spelt n (now (text .exit)) r ⌝ }
-{
-    io::decimal(n as u64, text)
-}
-
-// Puts a number in decimal and the byte behind it from a place on, and gives the place behind both.
-fn put_word(out: &mut [u8], at: usize, n: u32, behind: u8) -> usize
-    requires { ⌜ Inside (now out) at 11 ⌝ }
-    ensures { λ r. ⌜ Puts (now (out .entry)) at (word n behind) 11 (now (out .exit)) r ⌝ }
-{
-    let mut text = [0u8; 20];
-    let k = spell(n, &mut text);
-    put_packet(out, at, &text[0..k]);
-    out[at + k] = behind;
-    at + k + 1
-}
 
 // Puts the line of the row at i.
 fn put_row(out: &mut [u8], at: usize, rows: &[u32], i: usize) -> usize
@@ -57,16 +39,6 @@ fn put_rows(out: &mut [u8], rows: &[u32], k: usize) -> usize
         i += 1;
     }
     at
-}
-
-// Puts the line of a refusal at the front.
-fn put_refusal(out: &mut [u8], number: u32, place: u32) -> usize
-    requires { ⌜ Inside (now out) 0 30 ⌝ }
-    ensures { λ r. ⌜ Puts (now (out .entry)) 0 (refusedText number place) 30 (now (out .exit)) r ⌝ }
-{
-    put_packet(out, 0, b"refused ");
-    let a = put_word(out, 8, number, b' ');
-    put_word(out, a, place, b'\n')
 }
 
 // Puts the text of an answer at the front.

@@ -1,6 +1,6 @@
 -- Five numbers, each behind the one before.
 use borrow.Author.Needs.{needs}
-use Rattle.rowtext.proofs.TextLaws.{puts-then}
+use Rattle.spelling.proofs.TextLaws.{puts-then}
 use Rattle.rowtext.proofs.RowsLaws.{line-at}
 use Rattle.rowtext.proofs.put_row.Statement.{statement}
 use Rattle.rowtext.proofs.put_row.Tie as tie

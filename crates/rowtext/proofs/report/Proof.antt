@@ -1,8 +1,8 @@
 -- In each answer b is the place behind the test, and s the function's entry.
 use native.Mathlib.Omega.{arith}
 use borrow.Author.Needs.{needs}
-use Rattle.rowtext.proofs.ReportLaws.{roomy, short-text, long-text, tells-so}
-use Rattle.rowtext.proofs.RowsLaws.{tells}
+use Rattle.spelling.proofs.ReportLaws.{tells, tells-so}
+use Rattle.rowtext.proofs.ReportLaws.{roomy, short-text, long-text}
 use Rattle.rowtext.proofs.report.Statement.{statement}
 use Rattle.rowtext.proofs.report.Tie as tie
 

@@ -1,7 +1,8 @@
 -- In each answer r is the place behind `read`, u that behind `u1`, and s the function's entry.
 use native.Mathlib.Omega.{arith}
 use borrow.Author.Needs.{needs}
-use Rattle.rowtext.proofs.ReportLaws.{tellable, told-text, tells-so}
+use Rattle.spelling.proofs.ReportLaws.{tells-so}
+use Rattle.rowtext.proofs.ReportLaws.{tellable, told-text}
 use Rattle.rowtext.proofs.tell.Statement.{statement}
 use Rattle.rowtext.proofs.tell.Tie as tie
 

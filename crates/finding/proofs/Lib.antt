@@ -1,0 +1,3 @@
+pub mod StartLaws
+pub mod SeekLaws
+pub mod FindingLaws

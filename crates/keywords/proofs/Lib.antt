@@ -1,0 +1,4 @@
+pub mod DigitLaws
+pub mod NumberLaws
+pub mod SayingLaws
+pub mod TableLaws

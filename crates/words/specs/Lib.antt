@@ -1,0 +1,4 @@
+pub mod Words
+pub mod Parting
+pub mod Comparing
+pub mod Spaced
