@@ -172,8 +172,8 @@ xcp_written xcp_flexray_write(xcp_flexray_setting s, const uint8_t *packets, siz
  *            nothing else: the 0 that ends a string in C is not counted.
  *   longest  bytes of the longest packet, for both settings. The block does not say it.
  * Words. Blank, tab, CR, LF and comments part words. A comment goes from slash star to the next star slash behind them, or from
- * // to LF, CR or the text's end. A quoted string is one word, from " to the next ", any byte between, no escapes. A comment
- * and a string also end a word right before them. Words are compared byte for byte.
+ * // to LF, CR or the text's end. A quoted string is one word, from " to the next ", any byte between, no escapes; what follows
+ * it is a new word. A comment and a string also end a word right before them. Words are compared byte for byte.
  * Numbers. Decimal digits, or 0x and hexadecimal digits of either case, up to 65535; leading zeros are allowed.
  * The block is /begin XCP_ON_USB, four numbers, a header word, entries, /end XCP_ON_USB.
  *   header word  HEADER_LEN_BYTE, HEADER_LEN_CTR_BYTE, HEADER_LEN_FILL_BYTE, HEADER_LEN_WORD, HEADER_LEN_CTR_WORD,

@@ -177,7 +177,7 @@ module _ (t : List ℕ) (x : ℕ) where
   answer-is (Answered.refused (Refusal.wrong l (Wrong.early {ws = ws} p g h))) =
       judged-settings l p (Judged.early g (λ e s b. h s (describes p e b)))
 
--- a block that is written out says what it says, whatever blanks and comments stand between its words
+-- a text that is a block written out describes what the block says, whatever blanks and comments stand between its words
 pub written-out : {s : Said} {ws : List Text} {t : List ℕ} → Spaced ws t → Block s ws → Describes t s
 written-out {s} w b = let p = spaced 0 w in record { words = p .words; parts = p .parts; block = subst (Block s) (sym (p .are)) b }
 

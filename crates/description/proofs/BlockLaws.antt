@@ -30,11 +30,11 @@ module _ (f : Found) where
   unfolding step
   step-word ns w e = let p : Plain w = plain-is e in rw (p .unbegin, p .unend)
 
-  step-begin : (ns : List Text) → step (State.inside f ns) begin ≡ some (State.begun f ns)
+  pub step-begin : (ns : List Text) → step (State.inside f ns) begin ≡ some (State.begun f ns)
   unfolding step
   step-begin ns = refl
 
-  step-name : (m : Text) (ns : List Text) (n : Text) → plain n ≡ true → step (State.begun f (m ∷ ns)) n ≡ some (State.inside f (n ∷ m ∷ ns))
+  pub step-name : (m : Text) (ns : List Text) (n : Text) → plain n ≡ true → step (State.begun f (m ∷ ns)) n ≡ some (State.inside f (n ∷ m ∷ ns))
   unfolding step
   step-name m ns n e = rw e
 
@@ -46,7 +46,7 @@ module _ (f : Found) where
   unfolding step
   step-entry n e = let o : Ordinary n = ordinary-is e in rw (o .uncmd, o .unres, o .plain)
 
-  over-on : {vs ws : List Text} (n : Text) (ns : List Text) → Over vs ws
+  pub over-on : {vs ws : List Text} (n : Text) (ns : List Text) → Over vs ws
       → on (some (State.inside f (n ∷ ns))) ws ≡ on (some (State.inside f (n ∷ ns))) vs
   over-on n ns Over.here = refl
   over-on n ns (Over.word {w = w} e r) = rw (step-word (n ∷ ns) w e) (over-on n ns r)
@@ -64,17 +64,11 @@ unfolding step
 step-second Cmd f u = rw u
 step-second Res f u = rw u
 
-parameters-on : (k : Side) (f : Found) (e : Endpoint) (a b c d p l : Text) {n t i : ℕ} (ws : List Text) → number a ≡ some n → transfer b ≡ some t
+pub parameters-on : (k : Side) (f : Found) (e : Endpoint) (a b c d p l : Text) {n t i : ℕ} (ws : List Text) → number a ≡ some n → transfer b ≡ some t
     → number c ≡ some (e .datapacket) → number d ≡ some i → packing p ≡ some (e .packing) → alignment l ≡ some (e .align)
     → on (some (State.endpoint k f)) (a ∷ b ∷ c ∷ d ∷ p ∷ l ∷ ws) ≡ on (some (State.inside (put k e f) (name k ∷ []))) ws
 unfolding step
 parameters-on k f e a b c d p l ws ha hb hc hd hp hl = rw (ha, hb, hc, hd, hp, hl)
-
--- inside a paired block, behind its /end
-pub paired-on : (f : Found) (n : Text) {ws : List Text} → ordinary n ≡ true → Over (end ∷ []) ws
-    → on (some (State.inside f [])) (begin ∷ n ∷ ws) ≡ some (State.ended f n [])
-unfolding step
-paired-on f n {ws} e o = rw (step-entry f n e) (over-on f n [] o)
 
 endpoint-on : {vs ws : List Text} (k : Side) (f : Found) (e : Endpoint) → has k f ≡ none → EndpointBlock k e vs ws
     → on (some (State.inside f [])) ws ≡ on (some (State.inside (put k e f) [])) vs

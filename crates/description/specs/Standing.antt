@@ -14,7 +14,7 @@ use Rattle.description.specs.declared.Endpoint.{Endpoint}
 use Rattle.description.specs.declared.Said.{Said}
 use Rattle.description.specs.Block.{Block}
 
--- some words behind them make a block
+-- some words behind them, or none, make a block
 pub record GoesOn (ws : List Text) : Type 0 where
   pub rest : List Text
   pub said : Said

@@ -19,19 +19,18 @@ use Rattle.usb.specs.Refusal.{Broken, Fine, ReadRefusal}
 use Rattle.words.specs.Words.{same}
 use Rattle.words.specs.Spaced.{Spaced}
 use Rattle.keywords.specs.declared.Side.{Side}
-use Rattle.keywords.specs.Tables.{Text, begin, end, name, ordinary}
+use Rattle.keywords.specs.Tables.{Text, begin, end, xcpOnUsb, name}
 use Rattle.description.specs.declared.Described.{Described}
 use Rattle.description.specs.declared.Described.the-variants as D
 use Rattle.description.specs.declared.Endpoint.{Endpoint}
 use Rattle.description.specs.declared.Said.{Said}
-use Rattle.description.specs.Block.{Over, Block}
+use Rattle.description.specs.Block.{Block}
 use Rattle.description.specs.Standing.{Stops, Describes, cmdSetting, resSetting, Refusal, Accept}
-use Rattle.description.specs.Reading.{has, settingsOf}
+use Rattle.description.specs.Reading.{settingsOf}
 use Rattle.description.proofs.AnswerLaws as Laws
 use Rattle.description.proofs.AnswerLaws.{Answered, answered, answer-is}
-use Rattle.description.proofs.BlockLaws.{found}
 use Rattle.description.proofs.RuleLaws as Rules
-use Rattle.description.proofs.RuleLaws.{Begun}
+use Rattle.description.proofs.RuleLaws.{Begun, Opened, endpointOf}
 use Rattle.promises.proofs.Fitting.{Fits, Pair, Reaches, NoBlock, Unsound, describes-only, fits-describes, fits-accept, accept-fits, accept-pair}
 use Rattle.promises.proofs.Fitting.{no-refusal, stops-wrong, so-wrong, refusal-number, refusal-within, is-long, is-wrong, is-unsound}
 use Rattle.promises.proofs.Usb as Usb
@@ -133,19 +132,23 @@ module _ (t : List ℕ) (x : ℕ) {r : Described} (call : Reads t x r) (short : 
   pub stopped : {ts : List Text} {w : Text} {p : ℕ} → Stops ts w → Reaches t ts w p → r ≡ D.Refused 9 p
   stopped h w = call ∙ answer-is t x (Answered.refused (Refusal.wrong short (stops-wrong w h)))
 
-  module _ {h : ℕ} {c o : Option Endpoint} {ts : List Text} {p : ℕ} (b : Begun h c o ts) where
+  module _ {h : ℕ} {c o : Option Endpoint} {ts : List Text} {p : ℕ} (b : Begun h c o ts) (k : Side) where
     -- a second endpoint at its name
-    pub second : (k : Side) {e : Endpoint} → has k (found h c o) ≡ some e → Reaches t (ts ++ (begin ∷ [])) (name k) p → r ≡ D.Refused 9 p
-    second k u = stopped (Rules.second b k u)
+    pub second : {e : Endpoint} → endpointOf k c o ≡ some e → Reaches t (ts ++ (begin ∷ [])) (name k) p → r ≡ D.Refused 9 p
+    second u = stopped (Rules.second b k u)
 
     -- a missing endpoint at the block's closing /end
-    pub missing : (k : Side) → has k (found h c o) ≡ none → Reaches t ts end p → r ≡ D.Refused 9 p
-    missing k u = stopped (Rules.missing b k u)
+    pub missing : endpointOf k c o ≡ none → Reaches t ts end p → r ≡ D.Refused 9 p
+    missing u = stopped (Rules.missing b k u)
 
-    -- a wrong name behind a block's /end at that name
-    pub wrong-name : {ws : List Text} (n m : Text) → ordinary n ≡ true → Over (end ∷ []) ws → same m n ≡ false
-        → Reaches t (ts ++ (begin ∷ n ∷ ws)) m p → r ≡ D.Refused 9 p
-    wrong-name n m e i k = stopped (Rules.wrong-name b n m e i k)
+  -- a wrong name behind /end at that name: of a block that is open among the entries, as deep as it may stand, and of the whole block
+  pub wrong-name : {n : Text} {ns ts : List Text} {p : ℕ} (m : Text) → Opened (n ∷ ns) ts → same m n ≡ false → Reaches t (ts ++ (end ∷ [])) m p
+      → r ≡ D.Refused 9 p
+  wrong-name m a k = stopped (Rules.wrong-name m a k)
+
+  pub wrong-last : {h : ℕ} {c o : Endpoint} {ts : List Text} {p : ℕ} (m : Text) → Begun h (some c) (some o) ts → same m xcpOnUsb ≡ false
+      → Reaches t (ts ++ (end ∷ [])) m p → r ≡ D.Refused 9 p
+  wrong-last m b k = stopped (Rules.wrong-last m b k)
 
   -- a word behind the block at that word
   pub behind : {s : Said} {ts : List Text} {w : Text} {p : ℕ} → Block s ts → Reaches t ts w p → r ≡ D.Refused 9 p
@@ -153,7 +156,7 @@ module _ (t : List ℕ) (x : ℕ) {r : Described} (call : Reads t x r) (short : 
 
 ---- Other texts of the same block ----------------------------------------------------------------------------------------------
 
--- a block that is written out, with any blanks and comments between its words, says what it says, and reads the same however it is written out
+-- a text that is a block written out, with any blanks and comments between its words, describes what the block says, and all such texts read the same
 pub written-out : {s : Said} {ws : List Text} {t : List ℕ} → Spaced ws t → Block s ws → Describes t s
 written-out = Laws.written-out
 

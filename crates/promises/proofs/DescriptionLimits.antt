@@ -47,6 +47,9 @@ words =
     (some 0 ∷ some 1 ∷ some 2 ∷ none ∷ [])
     ∷ example (said alignment ("ALIGNMENT_8_BIT" ∷ "ALIGNMENT_16_BIT" ∷ "ALIGNMENT_32_BIT" ∷ "ALIGNMENT_64_BIT" ∷ "ALIGNMENT_128_BIT" ∷ []))
     (some 1 ∷ some 2 ∷ some 4 ∷ some 8 ∷ none ∷ [])
+    -- none is the beginning of a longer word
+    ∷ example (said transfer ("BULK_TRANSFERS" ∷ []) ++ said packing ("MESSAGE_PACKING_SINGLES" ∷ []) ++ said alignment ("ALIGNMENT_8_BITS" ∷ []))
+    (none ∷ none ∷ none ∷ [])
     ∷ []
 
 ---- Texts ----------------------------------------------------------------------------------------------------------------------
@@ -54,6 +57,10 @@ words =
 -- 46 bytes
 abbrev opening : List ℕ
 opening = ascii "/begin XCP_ON_USB 1 2 3 4 HEADER_LEN_CTR_BYTE "
+
+-- the same with a word LEN
+abbrev worded : List ℕ
+worded = ascii "/begin XCP_ON_USB 1 2 3 4 HEADER_LEN_CTR_WORD "
 
 -- the endpoints by their M, and the second by the words behind its alignment
 abbrev cmdOf : String → List ℕ
@@ -136,6 +143,22 @@ texts =
     ∷ wrong (ascii "/begin XCP_ON_USB 1 2 3 65536 HEADER_LEN_BYTE") 24
     ∷ wrong (ascii "\"/begin\" XCP_ON_USB") 0
     ∷ wrong (ascii "/begin XCP_ON_USB 1 2 3 4 5") 26
+    -- an endpoint's name without /begin is a word, and the block's name a name like any other
+    ∷ taken (block (ascii "OUT_EP_CMD_STIM /begin XCP_ON_USB /end XCP_ON_USB "))
+    -- inside an endpoint: a number for a transfer, an alignment for a packing, /end too early, another name behind /end
+    ∷ wrong (opening ++ ascii "/begin OUT_EP_CMD_STIM 1 2") 71
+    ∷ wrong (opening ++ ascii "/begin OUT_EP_CMD_STIM 1 BULK_TRANSFER 16 8 ALIGNMENT_32_BIT") 90
+    ∷ wrong (opening ++ ascii "/begin OUT_EP_CMD_STIM /end") 69
+    ∷ wrong (opening ++ resOf "0x40" (ascii "/end A ")) 153
+    -- M is 65,536, which is no number, and 65,535, which is judged
+    ∷ wrong (opening ++ cmdOf "65536" ++ res ++ closing) 85
+    ∷ example (settingsOf (opening ++ cmdOf "65535" ++ res ++ closing) 64) (D.Refused 1 0)
+    -- texts that stop inside an endpoint, and inside a block in a block
+    ∷ wrong (opening ++ ascii "/begin OUT_EP_CMD_STIM 1 BULK_TRANSFER ") 85
+    ∷ wrong (opening ++ ascii "/begin A /begin B") 63
+    -- X 8 to 65,535 with a word LEN
+    ∷ example (settingsOf (worded ++ cmd ++ res ++ closing) 65535) (D.Both (usb 4 1 4 16 65535 1) (usb 4 2 1 64 65535 0))
+    ∷ example (settingsOf (worded ++ cmd ++ res ++ closing) 65536) (D.Refused 1 0)
     ∷ []
 
 pub description-limits : (map (λ x. x .gives) words ≡ map (λ x. x .is) words) × (map (λ x. x .gives) texts ≡ map (λ x. x .is) texts)

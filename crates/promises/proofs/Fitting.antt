@@ -1,4 +1,4 @@
--- When a text of the description file is accepted and when it is refused, in the words of Ask 1 and with nothing folded away; and that this is what the
+-- When a text of the description file is accepted and when it is refused, spelled out in the words of Ask 1; and that this is what the
 -- definitions `Accept` and `Refusal` say.
 use Prim.Native.Nat.{ℕ, _<_, _≤_}
 use native.Mathlib.Omega.{arith}
@@ -108,7 +108,7 @@ pub record StopsEarly (t : List ℕ) (p : ℕ) : Type 0 where
 abbrev pub NoBlock : List ℕ → ℕ → Type 0
 NoBlock t p = FirstWrong t p ⊎ StopsEarly t p
 
--- the text is a block, and the settings that it says are not both sound
+-- the text is a block, and the two settings that it says are not both sound
 abbrev pub Unsound : List ℕ → ℕ → Type 0
 Unsound t x = (s : Said) × Describes t s × (bothSound s x ≡ false)
 

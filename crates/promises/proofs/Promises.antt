@@ -1,8 +1,8 @@
 -- The promises: open this file first. It goes through the three demands, for USB, for FlexRay, and for the settings from the description file. Each
 -- theorem is about any answer r that the contract of a function allows, and about the lent table or output as the call then leaves it (`left`). Tied shows
 -- that these are the functions' own contracts, as the code states them, and OneResult that each allows one answer only.
--- What is cited here says more: Usb and Flexray for each transport, Call and Numbers for what both share, Description and Fitting for the settings, Starred
--- and the tables of limits for the examples, ShutOut for programs shut out.
+-- What is cited here says more: Usb and Flexray for each transport, Call and Numbers for what both share, Description, Fitting
+-- and DescriptionNumbers for the settings, Starred and the tables of limits for the examples, ShutOut for programs shut out.
 use Prim.Native.Nat.{ℕ, _+_, _*_, _%_, _^_, _<_, _≤_}
 use native.Mathlib.Omega.{arith}
 use mathlib.Core.Path.{_≡_, refl}
@@ -36,6 +36,7 @@ use Rattle.usb.specs.Refusal as UsbRefusal
 use Rattle.usb.specs.Reading as UsbReading
 use Rattle.usb.specs.Writing as UsbWriting
 use Rattle.words.specs.Words.{Word, Parts}
+use Rattle.words.specs.Parting.{parting}
 use Rattle.words.specs.Spaced.{Spaced}
 use Rattle.words.proofs.PartLaws as Parting
 use Rattle.keywords.specs.Tables.{Text}
@@ -152,7 +153,7 @@ module _ (t : List ℕ) (x : ℕ) {r : Described} (call : Description.Reads t x 
   settings-unsound = Description.reads t x call .unsound p
 
   -- so a word that cannot stand behind the words ts is refused at its place: a second endpoint, a missing one, a wrong name and a word behind the block are
-  -- such words (Description `second`, `missing`, `wrong-name`, `behind`)
+  -- such words (Description `second`, `missing`, `wrong-name`, `wrong-last`, `behind`)
   pub settings-stopped : length t ≤ 16384 → {ts : List Text} {w : Text} → Stops ts w → Reaches t ts w p → r ≡ D.Refused 9 p
   settings-stopped short = Description.stopped t x call short
 
@@ -257,9 +258,17 @@ module _ (t : List ℕ) (x : ℕ) {r : Described} (call : Description.Reads t x 
   pub settings-pair : (c d : UsbSetting.Setting) → r ≡ D.Both c d → Pair x c d
   settings-pair = Description.reads t x call .pair
 
--- a text parts into words in one way only; and however the words of a block are written out, with any blanks and comments between them, they read the same
+-- every text parts into words, and in one way only
+pub parts-some : (t : List ℕ) → (ws : List Word) × (c : Bool) × Parts 0 t ws c
+parts-some t = let p = parting 0 t in (p .words, p .closed, Parting.parts 0 t)
+
 pub parts-only : {t : List ℕ} {vs ws : List Word} {c d : Bool} → Parts 0 t vs c → Parts 0 t ws d → (vs ≡ ws) × (c ≡ d)
 parts-only = Parting.parts-unique
+
+-- a text that is a block written out, with any blanks and comments between its words, describes what the block says, and all such texts read the same. (No
+-- comment stands right behind a word that ends with a slash: `Spaced`)
+pub written-out : {s : Said} {ws : List Text} {t : List ℕ} → Spaced ws t → Block s ws → Describes t s
+written-out = Description.written-out
 
 pub settings-same : {s : Said} {ws : List Text} {t u : List ℕ} (x : ℕ) {r v : Described} → Description.Reads t x r → Description.Reads u x v
     → Spaced ws t → Spaced ws u → length t ≤ 16384 → length u ≤ 16384 → Block s ws → r ≡ v

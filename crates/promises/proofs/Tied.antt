@@ -171,8 +171,8 @@ c-kind x a r e = (tt, λ p. p)
 
 ---- The programs ---------------------------------------------------------------------------------------------------------------
 
--- report of rowtext and of settingtext are no entry points, but what the programs print comes from them. They ask for a table and an output that are large
--- enough, and no more
+-- report of rowtext and of settingtext are no entry points, but what the programs print comes from them. They ask for an output that is large enough, that of
+-- rowtext for a table too, and no more
 pub report : (x : _) (a : _) (r : _) (e : _) → (Report.Asked x a ≡ Prepared (a .1 .1 .0 .now) (a .1 .0 .now))
     × (Report.Post x a r e → Reports (a .1 .1 .0 .now) (programText (a .0 .now)) (e .1 .1 .0 .now) r)
 report x a r e = (refl, λ p. p)
