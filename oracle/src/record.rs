@@ -9,8 +9,8 @@
 //! for written bytes the count, the next counter, 0; for a part its length, 0, 0; for a kind the kind, 0, 0; for a refusal its place,
 //! 0, 0; and the digest of all that was lent, or of the part. With the state lent, a refusal has the state as it is left in place of 0, 0.
 //!
-//! A text's record is two words, X and the number of bytes, and the bytes. Its line has fourteen numbers: 0 and 0, or the refusal's number
-//! and place; then the settings of OUT_EP_CMD_STIM and IN_EP_RESERR_DAQ_EVSERV, which are all 0 for a refusal.
+//! A text's record is two words, X and the number of bytes, and the bytes. Its lines are those that `xcpsettings` prints: `cmd_stim` and
+//! `res_daq`, each with the six numbers of its setting, or `refused` with number and place.
 
 use crate::call::*;
 use crate::rule::*;
@@ -145,13 +145,16 @@ fn read_numbers(read: &Read, lent: usize) -> [u32; 5] {
     }
 }
 
-fn text_line(answer: &Result<[Usb; 2], (u32, u32)>) -> String {
-    let numbers = match answer {
-        Ok(both) => [vec![0, 0], both.map(|s| usb(&s)).concat()].concat(),
-        Err((number, place)) => [vec![*number, *place], vec![0; 12]].concat(),
-    };
-    let words: Vec<String> = numbers.iter().map(u32::to_string).collect();
-    words.join(" ") + "\n"
+fn setting_line(name: &str, s: &Usb) -> String {
+    let numbers = usb(s).map(|n| n.to_string()).join(" ");
+    format!("{name} {numbers}\n")
+}
+
+fn text_lines(answer: &Result<[Usb; 2], (u32, u32)>) -> String {
+    match answer {
+        Ok([cmd, res]) => setting_line("cmd_stim", cmd) + &setting_line("res_daq", res),
+        Err((number, place)) => format!("refused {number} {place}\n"),
+    }
 }
 
 pub fn line(call: &Call, answer: &Answer) -> String {
@@ -167,7 +170,7 @@ pub fn line(call: &Call, answer: &Answer) -> String {
         Answer::Part(Some((n, place)), part) => [*n, *place as u32, 0, 0, bytes_digest(part, 0)],
         Answer::Part(None, part) => [0, part.len() as u32, 0, 0, bytes_digest(part, 0)],
         Answer::Kind(kind) => [0, *kind, 0, 0, DIGEST],
-        Answer::Settings(answer) => return text_line(answer),
+        Answer::Settings(answer) => return text_lines(answer),
     };
     format!("{} {} {} {} {}\n", n[0], n[1], n[2], n[3], n[4])
 }

@@ -26,7 +26,7 @@ use passing::Sign;
 use passing::next_sign;
 
 // What was found behind an entry, and the place there; or what the whole block comes to.
-pub enum Step {
+enum Step {
     On(Gathered, usize),
     Done(Outcome),
 }

@@ -20,7 +20,7 @@ use passing::pass_over;
 use words::same;
 
 // What a name is that stands behind /begin.
-pub enum Name {
+enum Name {
     Endpoint(Side),
     Other,
 }
@@ -39,7 +39,7 @@ pub struct Gathered {
 }
 
 // An endpoint, and the place behind its block; or the place that is wrong.
-pub enum Parsing {
+enum Parsing {
     Endpoint(Endpoint, usize),
     Wrong(usize),
 }

@@ -22,7 +22,7 @@ pub enum Sign {
 }
 
 // A place behind words that were read over, and how many blocks are open there; or the place that is wrong.
-pub enum Turn {
+enum Turn {
     On(usize, usize),
     Wrong(usize),
 }
