@@ -2,7 +2,8 @@
  * Plumagemud: lists of XCP packets in USB transfers and FlexRay frames, and USB settings from a description file.
  *
  * Every function answers every call; nothing has to be checked before. A refusal is a number from 1 to 9 with a place, and
- * changes nothing. The functions keep no data of their own, so threads may call them at the same time.
+ * changes nothing. The functions keep no data of their own, so threads may call them at the same time. All but xcp_usb_settings bring
+ * code alone into a program that is linked with --gc-sections: no constants.
  *
  * Arrays. Each pointer is followed by the number of its elements. It must be valid for so many, and aligned as its type asks.
  * Where that number is 0 the pointer is not used, and may be NULL. The table `rows` and the output `out` must not overlap any

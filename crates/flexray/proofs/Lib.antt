@@ -1,5 +1,6 @@
 pub mod AlignLaws
 pub mod FitLaws
+pub mod FormulaLaws
 pub mod FrameLaws
 pub mod FurtherLaws
 pub mod ReadLaws

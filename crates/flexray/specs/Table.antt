@@ -1,4 +1,4 @@
--- What the code's table holds of a header: its shape, and the least and the most of its alignments, which stand first and last; 0 where it has none.
+-- What the code holds of a header: its shape, and the least and the most of its alignments, which stand first and last; 0 where it has none.
 use Prim.Native.Nat.{ℕ}
 use mathlib.Core.List.{List, [], _∷_}
 use Rattle.layout.specs.Field.{shape}

@@ -1,8 +1,10 @@
-// FlexRay nodes: their settings, and the table of their headers.
+// FlexRay nodes: their settings, and their headers with the alignments that go with them.
 ghost use mathlib.Core.Path.{_≡_};
-ghost use Rattle.flexray.specs.Table.{entry as entryOf};
+ghost use Rattle.flexray.specs.Formula.{Roomy, made as madeOf, filled as filledOf, paired as pairedOf};
 ghost use Rattle.flexray.specs.Setting.{header as headerOf};
+ghost use Rattle.flexray.specs.Table.{entry as entryOf};
 use layout::Shape;
+use layout::pick;
 
 // Node, direction, frame ceiling F, header type, packet alignment A.
 #[repr(C)]
@@ -26,62 +28,69 @@ pub struct Entry {
     pub most: u32,
 }
 
-// Its line in the table: size, LEN's place and width, CTR's place and width, the two alignments.
-struct Line(usize, usize, usize, usize, usize, u32, u32);
-
-// The headers by number.
-const LINES: [Line; 9] = [
-    Line(1, 1, 0, 1, 0, 1, 1),
-    Line(2, 2, 0, 2, 0, 2, 2),
-    Line(4, 4, 0, 4, 0, 4, 4),
-    Line(2, 2, 0, 1, 1, 1, 2),
-    Line(4, 4, 0, 1, 1, 4, 4),
-    Line(2, 1, 1, 2, 0, 1, 2),
-    Line(4, 3, 1, 4, 0, 4, 4),
-    Line(3, 2, 1, 1, 1, 1, 1),
-    Line(4, 3, 1, 1, 1, 2, 4),
-];
-
-// The entry that a line says.
-fn entered(l: Line) -> Entry
-    ensures { λ r. ⌜ r ≡ record {
-      shape = record { size = l .0; lenat = l .1; lenwidth = l .2; ctrat = l .3; ctrwidth = l .4 };
-      least = l .5;
-      most = l .6;
-    } ⌝ }
+// The entry of a header of so many bytes, in which LEN and CTR have so many: NAX comes first and CTR behind it, LEN last, and what is left
+// is free. It goes with the alignments that divide its size and for which no free byte is too many.
+fn made(size: usize, len: usize, ctr: usize) -> Entry
+    requires { ⌜ Roomy size len ctr ⌝ }
+    ensures { λ r. ⌜ r ≡ madeOf size len ctr ⌝ }
 {
+    let free = size - (1 + (len + ctr));
+    let least = pick(free < 2, free + 1, 4);
+    let most = pick(size % 2 == 0, size, 1);
     Entry {
         shape: Shape {
-            size: l.0,
-            lenat: l.1,
-            lenwidth: l.2,
-            ctrat: l.3,
-            ctrwidth: l.4,
+            size,
+            lenat: size - len,
+            lenwidth: len,
+            ctrat: pick(ctr == 1, 1, size),
+            ctrwidth: ctr,
         },
-        least: l.5,
-        most: l.6,
+        least: least as u32,
+        most: most as u32,
     }
 }
 
-// The entry of a header number; a number beyond the table has no field and no alignment. Each arm reads a line that is known, so
-// that it is a constant: a line by a number that is not known would have the table built at each call.
+// The same, filled up to four bytes or with its bare size.
+fn filled(full: bool, bare: usize, len: usize, ctr: usize) -> Entry
+    requires { ⌜ Roomy bare len ctr ⌝ }
+    ensures { λ r. ⌜ r ≡ filledOf full bare len ctr ⌝ }
+{
+    made(pick(full, 4, bare), len, ctr)
+}
+
+// Headers 1 to 8 are pairs: with neither, with CTR, with LEN, with both. The second of a pair is filled up.
+fn paired(header: u32, full: bool) -> Entry
+    ensures { λ r. ⌜ r ≡ pairedOf header full ⌝ }
+{
+    if 6 < header {
+        return filled(full, 3, 1, 1);
+    }
+    if 4 < header {
+        return filled(full, 2, 1, 0);
+    }
+    if 2 < header {
+        return filled(full, 2, 0, 1);
+    }
+    filled(full, 2, 0, 0)
+}
+
+// The entry of a header, worked out from its number; a number beyond the last has no field and no alignment. Each call of `paired` is told
+// as a constant whether to fill up, so that places are constants on each way: a frame need not wait for what is worked out.
 pub fn listed(header: u32) -> Entry
     ensures { λ r. ⌜ r ≡ entryOf (headerOf header) ⌝ }
 {
-    match header {
-        0 => entered(LINES[0]),
-        1 => entered(LINES[1]),
-        2 => entered(LINES[2]),
-        3 => entered(LINES[3]),
-        4 => entered(LINES[4]),
-        5 => entered(LINES[5]),
-        6 => entered(LINES[6]),
-        7 => entered(LINES[7]),
-        8 => entered(LINES[8]),
-        _ => Entry {
+    if 8 < header {
+        return Entry {
             shape: Shape::NONE,
             least: 0,
             most: 0,
-        },
+        };
     }
+    if header < 1 {
+        return made(1, 0, 0);
+    }
+    if header % 2 == 0 {
+        return paired(header, true);
+    }
+    paired(header, false)
 }

@@ -13,7 +13,7 @@ use layout::both;
 use layout::either;
 use layout::rounded;
 
-// A setting's numbers, with those of its header, so that the table of headers is read once.
+// A setting's numbers, with those of its header, so that they are worked out once.
 pub struct Plan {
     pub node: usize,
     pub direction: u32,
@@ -75,7 +75,7 @@ fn joined(s: Setting, k: Shape) -> Plan
     }
 }
 
-// The plan of a setting, or that it is not sound. Nobody else looks a header up.
+// The plan of a setting, or that it is not sound. Nobody else works a header out.
 pub fn plan_for(s: Setting) -> Planned
     ensures { λ r. ⌜ PlannedAs s r ⌝ }
 {

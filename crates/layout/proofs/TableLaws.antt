@@ -1,12 +1,10 @@
--- Tables: a test of all entries that is computed once, and what a match with an arm for each number answers.
+-- Tables: a test of all entries that is computed once, and a rule of numbers that gives what a table holds.
 use Prim.Native.Nat.{ℕ, zero, suc, _<_, _≤_}
 use native.Mathlib.Omega.{arith}
-use native.Mathlib.Nat.{eq-or-lt-of-le}
-use mathlib.Core.Path.{_≡_, sym}
-use mathlib.Core.Logic.{⊎-elim}
+use mathlib.Core.Path.{_≡_}
 use mathlib.Core.Bool.{Bool, true, _&&_}
 use mathlib.Core.List.{List, [], _∷_, map}
-use lib.ListN.{length, getD, List·getD-eq-default}
+use lib.ListN.{length, getD}
 use Rattle.layout.proofs.TestLaws.{and-left, and-right}
 
 module _ {A : Type 0} where
@@ -26,22 +24,18 @@ module _ {A : Type 0} where
   all-given f d (x ∷ xs) zero o e = and-left (f x) (all f xs) e
   all-given f d (x ∷ xs) (suc i) o e = all-given f d xs i o (and-right (f x) (all f xs) e)
 
--- a number that is none of the first k, as a match says in its last arm
-abbrev pub NoneOf : ℕ → ℕ → Type 0
-NoneOf zero n = Unit {0}
-NoneOf (suc k) n = NoneOf k n × (n ≡ k → ⊥)
+-- A rule of numbers against a table: what it gives at the numbers of the entries, in one list
+module _ {A B : Type 0} where
+  abbrev pub along : (ℕ → B) → List A → List B
+  along g [] = []
+  along g (x ∷ xs) = g 0 ∷ along (λ n. g (suc n)) xs
 
-beyond : (k n : ℕ) → NoneOf k n → k ≤ n
-beyond zero n h = omega arith
-beyond (suc k) n (h, other) = ⊎-elim (λ e. absurd (other (sym e))) (λ l. l) (eq-or-lt-of-le (beyond k n h))
-
--- what a match answers of the entry of a number: in the arm of k, and in the last arm, for what stands for no entry
-module _ {A B : Type 0} (f : A → B) (d : A) (xs : List A) where
-  pub in-arm : {n k : ℕ} {r : B} → n ≡ k → r ≡ f (getD xs k d) → r ≡ f (getD xs n d)
-  in-arm e h = rw e h
-
-  pub in-last-arm : (n : ℕ) → NoneOf (length xs) n → f d ≡ f (getD xs n d)
-  in-last-arm n h = rw (List·getD-eq-default xs d {n = n} (beyond (length xs) n h))
+  -- if these are what f makes of the entries, and beyond the table it gives what f makes of no entry, then so it is at every number
+  pub by-number : (f : A → B) (g : ℕ → B) (d : A) (xs : List A) (n : ℕ) → along g xs ≡ map f xs
+      → ((k : ℕ) → length xs ≤ k → g k ≡ f d) → g n ≡ f (getD xs n d)
+  by-number f g d [] n e o = o n (omega arith)
+  by-number f g d (x ∷ xs) zero e o = cc
+  by-number f g d (x ∷ xs) (suc n) e o = by-number f (λ k. g (suc k)) d xs n (cc) (λ k h. o (suc k) (omega arith))
 
 -- two rules that agree at every entry of a table, and at what stands for no entry, agree at every number
 pub alike : {A B : Type 0} (f g : A → B) (d : A) (xs : List A) (i : ℕ) → f d ≡ g d → map f xs ≡ map g xs → f (getD xs i d) ≡ g (getD xs i d)

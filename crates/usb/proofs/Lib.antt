@@ -1,5 +1,6 @@
 pub mod BoundLaws
 pub mod FirstLaws
+pub mod FormulaLaws
 pub mod LaidLaws
 pub mod ReadLaws
 pub mod RefusalLaws

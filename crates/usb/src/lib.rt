@@ -1,8 +1,11 @@
-// USB endpoints: their settings, and the table of their headers.
+// USB endpoints: their settings, and the shapes of their headers.
 ghost use mathlib.Core.Path.{_≡_};
+ghost use Prim.Native.Nat.{_≤_};
 ghost use Rattle.layout.specs.Field.{shape as shapeOf};
+ghost use Rattle.usb.specs.Formula.{spread as spreadOf};
 ghost use Rattle.usb.specs.Setting.{header as headerOf};
 use layout::Shape;
+use layout::pick;
 
 // Header type, packing, alignment A, data packet size M, longest packet X, direction.
 #[repr(C)]
@@ -23,44 +26,30 @@ pub enum Verdict {
     Refuse(u32),
 }
 
-// A header's line in the table: size, LEN's place and width, CTR's place and width.
-struct Line(usize, usize, usize, usize, usize);
-
-// The headers by number.
-const LINES: [Line; 6] = [
-    Line(1, 0, 1, 1, 0),
-    Line(2, 0, 1, 1, 1),
-    Line(2, 0, 1, 2, 0),
-    Line(2, 0, 2, 2, 0),
-    Line(4, 0, 2, 2, 2),
-    Line(4, 0, 2, 4, 0),
-];
-
-// The shape that a line says.
-fn shaped(l: Line) -> Shape
-    ensures { λ r. ⌜ r ≡ record { size = l .0; lenat = l .1; lenwidth = l .2; ctrat = l .3; ctrwidth = l .4 } ⌝ }
+// The shape of fields of so many bytes, in one of three forms: LEN alone, LEN and CTR, LEN and free bytes.
+fn spread(form: u32, width: usize) -> Shape
+    requires { ⌜ width ≤ 2 ⌝ }
+    ensures { λ r. ⌜ r ≡ spreadOf form width ⌝ }
 {
     Shape {
-        size: l.0,
-        lenat: l.1,
-        lenwidth: l.2,
-        ctrat: l.3,
-        ctrwidth: l.4,
+        size: pick(form == 0, width, 2 * width),
+        lenat: 0,
+        lenwidth: width,
+        ctrat: pick(form == 2, 2 * width, width),
+        ctrwidth: pick(form == 1, width, 0),
     }
 }
 
-// The shape of a header by its number; a number beyond the table has no field. Each arm reads a line that is known, so that it is
-// a constant: a line by a number that is not known would have the table built at each call.
+// The shape of a header, worked out from its number: 0 to 2 are the three forms with bytes, 3 to 5 with words. A number beyond them has no
+// field.
 pub fn shape(header: u32) -> Shape
     ensures { λ r. ⌜ r ≡ shapeOf (headerOf header) ⌝ }
 {
-    match header {
-        0 => shaped(LINES[0]),
-        1 => shaped(LINES[1]),
-        2 => shaped(LINES[2]),
-        3 => shaped(LINES[3]),
-        4 => shaped(LINES[4]),
-        5 => shaped(LINES[5]),
-        _ => Shape::NONE,
+    if header < 3 {
+        return spread(header, 1);
     }
+    if header < 6 {
+        return spread(header - 3, 2);
+    }
+    Shape::NONE
 }

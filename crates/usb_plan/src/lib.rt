@@ -13,7 +13,7 @@ use packet::At;
 use usb::Setting;
 use usb::shape;
 
-// A setting's numbers, with those of its header, so that the table of headers is read once.
+// A setting's numbers, with those of its header, so that they are worked out once.
 pub struct Plan {
     pub header: u32,
     pub packing: usize,
@@ -98,7 +98,7 @@ fn joined(s: Setting, k: Shape) -> Plan
     }
 }
 
-// The plan of a setting, or that it is not sound. Nobody else looks a header up.
+// The plan of a setting, or that it is not sound. Nobody else works a header out.
 pub fn plan_for(s: Setting) -> Planned
     ensures { λ r. ⌜ PlannedAs s r ⌝ }
 {
