@@ -28,8 +28,9 @@ pub struct Entry {
     pub most: u32,
 }
 
-// The entry of a header of so many bytes, in which LEN and CTR have so many: NAX comes first and CTR behind it, LEN last, and what is left
-// is free. It goes with the alignments that divide its size and for which no free byte is too many.
+// The entry of a header of `size` bytes, of which LEN has `len` and CTR `ctr`. NAX comes first and CTR behind it, LEN last, and what is left
+// is free; a field that is absent stands at the header's end. It goes with those alignments of 1, 2 and 4 that divide its size and are more
+// than its free bytes.
 fn made(size: usize, len: usize, ctr: usize) -> Entry
     requires { ⌜ Roomy size len ctr ⌝ }
     ensures { λ r. ⌜ r ≡ madeOf size len ctr ⌝ }
@@ -50,15 +51,16 @@ fn made(size: usize, len: usize, ctr: usize) -> Entry
     }
 }
 
-// The same, filled up to four bytes or with its bare size.
-fn filled(full: bool, bare: usize, len: usize, ctr: usize) -> Entry
-    requires { ⌜ Roomy bare len ctr ⌝ }
-    ensures { λ r. ⌜ r ≡ filledOf full bare len ctr ⌝ }
+// The same, filled up to four bytes or of `short` bytes.
+fn filled(full: bool, short: usize, len: usize, ctr: usize) -> Entry
+    requires { ⌜ Roomy short len ctr ⌝ }
+    ensures { λ r. ⌜ r ≡ filledOf full short len ctr ⌝ }
 {
-    made(pick(full, 4, bare), len, ctr)
+    made(pick(full, 4, short), len, ctr)
 }
 
-// Headers 1 to 8 are pairs: with neither, with CTR, with LEN, with both. The second of a pair is filled up.
+// Headers 1 to 8 are pairs: with neither CTR nor LEN, with CTR, with LEN, with both. The second of a pair is filled up; the first has two
+// bytes, or three with both.
 fn paired(header: u32, full: bool) -> Entry
     ensures { λ r. ⌜ r ≡ pairedOf header full ⌝ }
 {
@@ -75,7 +77,7 @@ fn paired(header: u32, full: bool) -> Entry
 }
 
 // The entry of a header, worked out from its number; a number beyond the last has no field and no alignment. Each call of `paired` is told
-// as a constant whether to fill up, so that places are constants on each way: a frame need not wait for what is worked out.
+// by a constant whether to fill up, so that on each path the places are constants, and reading LEN does not wait for arithmetic.
 pub fn listed(header: u32) -> Entry
     ensures { λ r. ⌜ r ≡ entryOf (headerOf header) ⌝ }
 {

@@ -45,7 +45,7 @@ planOf s k =
 abbrev pub goes : ℕ → Entry → Bool
 goes a h = ltb 0 (h .least) && (eqb a (h .least) || eqb a (h .most))
 
--- the table's entry for a setting's header
+-- what a setting's header comes to
 pub record EntryOf (s : Setting) (h : Entry) : Type 0 where
   pub is : h ≡ entry (header (s .header))
 

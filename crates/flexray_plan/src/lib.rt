@@ -33,7 +33,7 @@ pub enum Planned {
     Unsound,
 }
 
-// Whether an alignment goes with a header of the table.
+// Whether an alignment goes with a header.
 fn aligned(h: Entry, a: u32) -> bool
     ensures { λ r. ⌜ r ≡ goes a h ⌝ }
 {

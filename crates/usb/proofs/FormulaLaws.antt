@@ -17,7 +17,7 @@ pub worked-is : (n : ℕ) → worked n ≡ shape (header n)
 unfolding headers worked
 worked-is n = by-number shape worked [] headers n refl none-beyond
 
--- .. on each way that the code goes
+-- .. on each path of the code
 pub bytes-are : (n : ℕ) → n < 3 → spread n 1 ≡ shape (header n)
 unfolding worked
 bytes-are n h = rw (lt-ltb n 3 h) at (worked-is n)

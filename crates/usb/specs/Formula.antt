@@ -6,7 +6,7 @@ use lib.Dec.{ltb, eqb}
 use Rattle.layout.specs.declared.Shape.{Shape}
 use Rattle.layout.specs.Field.{shape}
 
--- fields of w bytes, in one of three forms: 0 is LEN alone, 1 LEN and CTR, 2 LEN and free bytes
+-- fields of w bytes, in one of three forms: 0 is LEN alone, 1 LEN and CTR, 2 LEN and free bytes. A CTR that is absent stands at the header's end
 abbrev pub spread : ℕ → ℕ → Shape
 spread form w =
     record {

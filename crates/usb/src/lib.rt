@@ -26,7 +26,8 @@ pub enum Verdict {
     Refuse(u32),
 }
 
-// The shape of fields of so many bytes, in one of three forms: LEN alone, LEN and CTR, LEN and free bytes.
+// The shape of a header whose fields have `width` bytes, in one of three forms: 0 is LEN alone, 1 LEN and CTR, 2 LEN and free bytes. A CTR
+// that is absent stands at the header's end.
 fn spread(form: u32, width: usize) -> Shape
     requires { ⌜ width ≤ 2 ⌝ }
     ensures { λ r. ⌜ r ≡ spreadOf form width ⌝ }

@@ -4,7 +4,7 @@ use Rattle.flexray.proofs.filled.Statement.{statement}
 use Rattle.flexray.proofs.filled.Tie as tie
 
 room : tie.Need-made-requires
-room c κs = let k = c .before in roomy (k .args .full) (k .args .bare) (c .pick .ensures) (k .pre)
+room c κs = let k = c .before in roomy (k .args .full) (k .args .short) (c .pick .ensures) (k .pre)
 
 returns : tie.Need-returns
 returns c = rw (c .made .ensures, c .before .pick .ensures)

@@ -1,4 +1,4 @@
--- Each way gives what the table derives, by the formula's laws.
+-- Each path gives what the table derives, by the formula's laws.
 use mathlib.Core.Path.{_∙_}
 use borrow.Author.Needs.{needs}
 use Rattle.usb.proofs.FormulaLaws.{bytes-are, words-are, none-are}
