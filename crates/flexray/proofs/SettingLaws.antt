@@ -1,5 +1,5 @@
 -- What a sound setting has. For the header: by one computed test over the table, whose numbers are those that have an alignment.
-use Prim.Native.Nat.{ℕ, _%_, _<_, _≤_}
+use Prim.Native.Nat.{ℕ, _+_, _%_, _<_, _≤_}
 use native.Mathlib.Omega.{arith}
 use mathlib.Core.Path.{_≡_, refl}
 use mathlib.Core.Bool.{Bool, true, false, _&&_, _||_}
@@ -27,6 +27,9 @@ pub record Good (s : Setting) : Type 0 where
   pub small : H s ≤ 4
   pub lens : L s ≤ 1
   pub ctrs : W s ≤ 1
+  -- NAX, CTR and LEN have room, and the first packet starts at a multiple of the alignment
+  pub apart : 1 + W s + L s ≤ H s
+  pub whole : H s % s .align ≡ 0
 
 right : Header → Bool
 right h =
@@ -38,6 +41,9 @@ right h =
     && leb (width LEN fs) 1
     && leb (width CTR fs) 1
     && all alignment (h .aligns)
+
+spaced : Header → Bool
+spaced h = let fs = h .fields in leb (1 + width CTR fs + width LEN fs) (size fs) && all (λ a. eqb (size fs % a) 0) (h .aligns)
 
 -- an alignment of the list passes what all of it pass
 among-all : (f : ℕ → Bool) (a : ℕ) (bs : List ℕ) → among a bs ≡ true → all f bs ≡ true → f a ≡ true
@@ -64,13 +70,18 @@ headers-right : (n : ℕ) → n < length headers → right (header n) ≡ true
 unfolding headers right
 headers-right n h = all-at right (record { fields = []; aligns = [] }) headers n refl h
 
+headers-spaced : (n : ℕ) → n < length headers → spaced (header n) ≡ true
+unfolding headers spaced
+headers-spaced n h = all-at spaced (record { fields = []; aligns = [] }) headers n refl h
+
 pub good : (s : Setting) → sound s ≡ true → Good s
-unfolding sound right
+unfolding sound right spaced
 good s e =
     let fs = fields s in
     let aligns = header (s .header) .aligns in
     let m : among (s .align) aligns ≡ true = search (and-left, and-right) in
     let r : right (header (s .header)) ≡ true = headers-right (s .header) (listed (s .align) (s .header) m) in
+    let t : spaced (header (s .header)) ≡ true = headers-spaced (s .header) (listed (s .align) (s .header) m) in
     record {
       node = ltb-true (s .node) 256 (search (and-left, and-right));
       least = leb-true 8 (s .ceiling) (search (and-left, and-right));
@@ -83,4 +94,6 @@ good s e =
       small = leb-true (H s) 4 (search (and-left, and-right));
       lens = leb-true (L s) 1 (search (and-left, and-right));
       ctrs = leb-true (W s) 1 (search (and-left, and-right));
+      apart = leb-true (1 + W s + L s) (H s) (search (and-left, and-right));
+      whole = eqb-true (H s % s .align) 0 (among-all (λ a. eqb (H s % a) 0) (s .align) aligns m (search (and-left, and-right)));
     }

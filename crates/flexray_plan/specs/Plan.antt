@@ -1,19 +1,20 @@
 -- A plan, in the layout's terms. What follows from a sound setting stands here in numbers, so that a proof finds it by itself.
 use Prim.Native.Nat.{ℕ, _+_, _%_, _<_, _≤_}
 use mathlib.Core.Path.{_≡_}
-use mathlib.Core.Bool.{Bool, true, false, _&&_, _||_}
+use mathlib.Core.Bool.{Bool, true, _&&_, _||_}
 use lib.Dec.{ltb, eqb}
 use Rattle.layout.specs.declared.Shape.{Shape}
-use Rattle.layout.specs.Field.{place, width, Name.NAX, Name.LEN, Name.CTR}
+use Rattle.layout.specs.Field.{shape, place, width, Name.NAX, Name.LEN, Name.CTR}
 use Rattle.layout.specs.Multiple.{Aligned}
 use Rattle.flexray.specs.declared.Entry.{Entry}
 use Rattle.flexray.specs.declared.Setting.{Setting}
 use Rattle.flexray.specs.Setting.{header, fields, H, L, W, sound, mostCeiling}
 use Rattle.flexray.specs.Setting.{start as startOf}
 use Rattle.flexray.specs.Table.{entry}
-use Rattle.flexray_plan.specs.declared.Plan.{Plan}
-use Rattle.flexray_plan.specs.declared.Planned.{Planned}
-use Rattle.flexray_plan.specs.declared.Planned.the-variants as P
+use Rattle.plan.specs.declared.Plan.{Plan}
+use Rattle.plan.specs.declared.Planned.{Planned}
+use Rattle.plan.specs.Plan.{planned}
+use Rattle.plan.specs.Plan.{planOf as joined}
 
 -- the setting of a plan
 abbrev pub setting : Plan → Setting
@@ -21,24 +22,34 @@ setting p =
     record {
       node = p .node;
       direction = p .direction;
-      ceiling = p .ceiling;
+      ceiling = p .datapacket;
       header = p .header;
       align = p .align;
     }
 
+-- a frame is a data packet, and LEN, a byte, says up to 255
 abbrev pub planOf : Setting → Shape → Plan
-planOf s k =
+planOf s k = joined 3 (s .header) (s .align) (s .ceiling) 255 (s .direction) (s .node) k
+
+abbrev pub plannedOf : Setting → Planned
+plannedOf s = planned (sound s) (planOf s (shape (fields s)))
+
+-- the plan of the packets behind a frame's first: the header of each is its LEN, a byte, and none carries a counter
+abbrev pub furtherOf : Plan → Plan
+furtherOf p =
     record {
-      node = s .node;
-      direction = s .direction;
-      ceiling = s .ceiling;
-      header = s .header;
-      align = s .align;
-      size = k .size;
-      lenat = k .lenat;
-      lenwidth = k .lenwidth;
-      ctrat = k .ctrat;
-      ctrwidth = k .ctrwidth;
+      layout = 3;
+      header = p .header;
+      align = p .align;
+      datapacket = p .datapacket;
+      longest = 255;
+      direction = p .direction;
+      node = p .node;
+      size = 1;
+      lenat = 0;
+      lenwidth = 1;
+      ctrat = 1;
+      ctrwidth = 0;
     }
 
 -- an alignment is one of a header's, by the least and the most
@@ -62,19 +73,19 @@ pub record Ready (p : Plan) : Type 0 where
   pub naxwidth : width NAX (fields (setting p)) ≡ 1
   pub node : p .node < 256
   pub aligned : Aligned (p .align)
-  pub ceiling-least : 8 ≤ p .ceiling
-  pub ceiling-most : p .ceiling ≤ mostCeiling
-  pub even : p .ceiling % 2 ≡ 0
+  pub ceiling-least : 8 ≤ p .datapacket
+  pub ceiling-most : p .datapacket ≤ mostCeiling
+  pub even : p .datapacket % 2 ≡ 0
   pub size-least : 1 ≤ p .size
   pub size-most : p .size ≤ 4
   pub len-narrow : p .lenwidth ≤ 1
   pub len-inside : p .lenat + p .lenwidth ≤ p .size
   pub ctr-narrow : p .ctrwidth ≤ 1
   pub ctr-inside : p .ctrat + p .ctrwidth ≤ p .size
-
-abbrev pub PlannedAs : Setting → Planned → Type 0
-PlannedAs s (P.Sound p) = (setting p ≡ s) × Ready p
-PlannedAs s P.Unsound = sound s ≡ false
+  -- CTR stands behind NAX, and LEN last
+  pub ctr-second : 0 < p .ctrwidth → p .ctrat ≡ 1
+  pub len-last : 0 < p .lenwidth → p .lenat + 1 ≡ p .size
+  pub way : p .direction < 2
 
 -- where a packet starts behind one that ends at e
 pub record Started (a e r : ℕ) : Type 0 where

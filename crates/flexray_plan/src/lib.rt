@@ -3,35 +3,17 @@ ghost use mathlib.Core.Path.{_≡_};
 ghost use Prim.Native.Nat.{_+_};
 ghost use Rattle.layout.specs.Multiple.{Roundable};
 ghost use Rattle.flexray.specs.Setting.{capped as cappedOf, sound as soundOf};
-ghost use Rattle.flexray_plan.specs.Plan.{planOf, goes, EntryOf, PlannedAs, Started};
+ghost use Rattle.flexray_plan.specs.Plan.{plannedOf, furtherOf, goes, EntryOf, Started};
 use flexray::Entry;
 use flexray::Setting;
 use flexray::listed;
-use layout::Shape;
 use layout::all;
 use layout::both;
 use layout::either;
 use layout::rounded;
-
-// A setting's numbers, with those of its header, so that they are worked out once.
-pub struct Plan {
-    pub node: usize,
-    pub direction: u32,
-    pub ceiling: usize,
-    pub header: u32,
-    pub align: usize,
-    pub size: usize,
-    pub lenat: usize,
-    pub lenwidth: usize,
-    pub ctrat: usize,
-    pub ctrwidth: usize,
-}
-
-// The plan of a setting that is sound.
-pub enum Planned {
-    Sound(Plan),
-    Unsound,
-}
+use plan::Plan;
+use plan::Planned;
+use plan::joined;
 
 // Whether an alignment goes with a header.
 fn aligned(h: Entry, a: u32) -> bool
@@ -57,34 +39,36 @@ fn sound(s: Setting, h: Entry) -> bool
     both(ok, aligned(h, s.align))
 }
 
-// A setting with the numbers of its header.
-fn joined(s: Setting, k: Shape) -> Plan
-    ensures { λ r. ⌜ r ≡ planOf s k ⌝ }
-{
-    Plan {
-        node: s.node as usize,
-        direction: s.direction,
-        ceiling: s.ceiling as usize,
-        header: s.header,
-        align: s.align as usize,
-        size: k.size,
-        lenat: k.lenat,
-        lenwidth: k.lenwidth,
-        ctrat: k.ctrat,
-        ctrwidth: k.ctrwidth,
-    }
-}
-
 // The plan of a setting, or that it is not sound. Nobody else works a header out.
 pub fn plan_for(s: Setting) -> Planned
-    ensures { λ r. ⌜ PlannedAs s r ⌝ }
+    ensures { λ r. ⌜ r ≡ plannedOf s ⌝ }
 {
     let h = listed(s.header);
     if sound(s, h) {
         let k = h.shape;
-        return Planned::Sound(joined(s, k));
+        return Planned::Sound(joined(3, s.header, s.align, s.ceiling, 255, s.direction, s.node, k));
     }
     Planned::Unsound
+}
+
+// The plan of the packets behind a frame's first: the header of each is its LEN, a byte, and none carries a counter.
+pub fn further(p: Plan) -> Plan
+    ensures { λ r. ⌜ r ≡ furtherOf p ⌝ }
+{
+    Plan {
+        layout: 3,
+        header: p.header,
+        align: p.align,
+        datapacket: p.datapacket,
+        longest: 255,
+        direction: p.direction,
+        node: p.node,
+        size: 1,
+        lenat: 0,
+        lenwidth: 1,
+        ctrat: 1,
+        ctrwidth: 0,
+    }
 }
 
 // Where the packet behind one that ends at e starts: the byte just before it is its LEN.

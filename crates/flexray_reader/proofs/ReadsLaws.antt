@@ -16,7 +16,7 @@ use Rattle.rows.specs.declared.Judged.{Judged}
 use Rattle.rows.specs.declared.Judged.the-variants.{Rows, Refused}
 use Rattle.rows.specs.Count.{counted, Small, JudgedAs}
 use Rattle.rows.specs.Fill.{Filled.filled, fillOf}
-use Rattle.rows.proofs.AnswerLaws.{not-sound, not-judged, has-room}
+use Rattle.rows.proofs.AnswerLaws.{not-sound, not-judged}
 use Rattle.flexray.specs.declared.Setting.{Setting}
 use Rattle.flexray.specs.Setting.{fields, W, sound, mostCeiling}
 use Rattle.flexray.specs.Layout.{Evened, Sized}
@@ -24,11 +24,9 @@ use Rattle.flexray.specs.Reading.{ahead, judged, readOf}
 use Rattle.flexray.specs.Row.{frameTable, frameState}
 use Rattle.flexray.proofs.ReadLaws.{judge, judged-is}
 use Rattle.flexray.proofs.ReadLaws.{Judged as Why}
-use Rattle.flexray_plan.specs.declared.Plan.{Plan}
+use Rattle.plan.specs.declared.Plan.{Plan}
 use Rattle.flexray_plan.specs.Plan.{setting, Ready}
-use Rattle.flexray_step.specs.Step.{Given}
-use Rattle.flexray_rows.specs.Frames.{framing, Fillable}
-use Rattle.flexray_reader.specs.Reads.{answerTo, Giveable}
+use Rattle.flexray_reader.specs.Reads.{framing, Given, Fillable, answerTo, Giveable}
 
 module _ (t : List ℕ) (c : Counter) (rows : List ℕ) where
   -- the plan's setting is the one that was given
@@ -57,30 +55,30 @@ smaller n m (Rows k) h l = omega arith
 smaller n m (Refused a q) h l = omega arith
 
 module _ {p : Plan} (k : Ready p) (t : List ℕ) where
-  refuses : {n : ℕ} → judged (setting p) t ≡ refused n 0 → JudgedAs (judged (setting p) t) mostCeiling (Refused n 0)
+  refuses : {n : ℕ} → judged (setting p) t ≡ refused n 0 → JudgedAs 0 (judged (setting p) t) mostCeiling (Refused n 0)
   refuses e = record { is = ap (counted 0) (sym e); small = omega arith }
 
-  pub odd : length t % 2 ≡ 1 → JudgedAs (judged (setting p) t) mostCeiling (Refused 8 0)
+  pub odd : length t % 2 ≡ 1 → JudgedAs 0 (judged (setting p) t) mostCeiling (Refused 8 0)
   odd h = refuses (judged-is (setting p) t (Why.odd (k .ok) h))
 
-  pub long : p .ceiling < length t → JudgedAs (judged (setting p) t) mostCeiling (Refused 8 0)
+  pub long : p .datapacket < length t → JudgedAs 0 (judged (setting p) t) mostCeiling (Refused 8 0)
   long h = refuses (judged-is (setting p) t (Why.long (k .ok) h))
 
-  module _ (o : length t % 2 ≡ 1 → ⊥) (m : length t ≤ p .ceiling) where
+  module _ (o : length t % 2 ≡ 1 → ⊥) (m : length t ≤ p .datapacket) where
     evened : Evened (setting p) t
     evened = record { even = omega (arith, o); most = m }
 
-    pub short : length t < p .size + 1 → JudgedAs (judged (setting p) t) mostCeiling (Refused 6 0)
+    pub short : length t < p .size + 1 → JudgedAs 0 (judged (setting p) t) mostCeiling (Refused 6 0)
     short h = refuses (judged-is (setting p) t (Why.short (k .ok) evened (omega (arith, k .size))))
 
     module _ (l : p .size + 1 ≤ length t) {n : ℕ} (f : Number t 0 1 n) where
       nax : n ≡ says NAX (fields (setting p)) t 0
       nax = f .is ∙ rw (k .naxat, k .naxwidth)
 
-      pub other : (n ≡ p .node → ⊥) → JudgedAs (judged (setting p) t) mostCeiling (Refused 7 0)
+      pub other : (n ≡ p .node → ⊥) → JudgedAs 0 (judged (setting p) t) mostCeiling (Refused 7 0)
       other h = refuses (judged-is (setting p) t (Why.other (k .ok) evened (omega (arith, k .size)) (λ e. h (nax ∙ e))))
 
-      pub own : n ≡ p .node → {r : Judged} → JudgedAs (ahead (setting p) t 0) (length t) r → JudgedAs (judged (setting p) t) mostCeiling r
+      pub own : n ≡ p .node → {r : Judged} → JudgedAs 0 (ahead (setting p) t 0) (length t) r → JudgedAs 0 (judged (setting p) t) mostCeiling r
       own h {r} j =
           let z : Sized (setting p) t = record { evened = evened; least = omega (arith, k .size); nax = sym nax ∙ h } in
           let w : judged (setting p) t ≡ ahead (setting p) t 0 = judged-is (setting p) t (Why.walks (k .ok) z refl) in
@@ -109,10 +107,10 @@ walked {p} {t} {k} y e = at (judge (setting p) t) refl e
         }
 
 module _ {p : Plan} {t : List ℕ} {c : Counter} {k : ℕ} (g : Giveable p t c k) where
-  pub fillable : (n : ℕ) → 5 * k ≤ n → Fillable p t c n
-  fillable n l =
+  pub fillable : {n : ℕ} → 5 * k ≤ n → Fillable p t c k n
+  fillable l =
       let w = walked (g .ready) (g .judged .is) in
-      record { given = w .given; sane = g .sane; room = rw (w .walk) at (has-room (g .judged) n l) }
+      record { given = w .given; sane = g .sane; rows = g .judged .is ∙ ap (counted 0) (w .walk); few = g .judged .small; room = l }
 
   pub filled-as : (rows : List ℕ) {new : List ℕ} {d : Counter} → filled new d ≡ framing p t c rows
       → filled new d ≡ fillOf (frameTable (p .direction) (p .ctrwidth) c) (frameState (p .ctrwidth) c) rows 0 (judged (setting p) t)

@@ -1,1 +1,3 @@
+pub mod FirstLaws
+pub mod FrameLaws
 pub mod WritesLaws

@@ -1,29 +1,38 @@
 // The FlexRay writer: it sizes a frame, checks its inputs and the room, and writes it.
 ghost use mathlib.Core.Path.{_≡_};
-ghost use mathlib.Core.Bool.{_||_};
+ghost use mathlib.Core.List.{_++_};
 ghost use lib.ListN.{length};
 ghost use lib.Seq.{sets};
 ghost use Rattle.packet.specs.Answer.{Gives};
-ghost use Rattle.packet.specs.Packets.{packets as packetsOf, mismatched as mismatchedOf};
-ghost use Rattle.flexray.specs.Writing.{frame, miscounted as miscountedOf, writeOf};
+ghost use Rattle.packet.specs.Packets.{packets as packetsOf};
+ghost use Rattle.flexray.specs.Writing.{frame, byteAfter, evening, miscounted as miscountedOf, writeOf};
 ghost use Rattle.flexray_plan.specs.Plan.{setting, Ready};
-ghost use Rattle.flexray_writer.specs.Writes.{Matching, Fitted, Roomy};
+ghost use Rattle.writing.specs.Puts.{Wrote};
+ghost use Rattle.writing.specs.Sizes.{SizedAs};
+ghost use Rattle.flexray_writer.specs.Writes.{Sizing, Putting, headBytes, Leading, Ending, Evening};
+ghost use Rattle.flexray_writer.specs.Writes.{framed, Counted, Fitted, Roomy};
 use flexray::Setting;
-use flexray_plan::Plan;
-use flexray_plan::Planned;
+use flexray_plan::further;
 use flexray_plan::plan_for;
-use flexray_put::put_all;
-use flexray_put::put_evening;
-use flexray_size::Sized;
-use flexray_size::size;
+use flexray_plan::start;
 use layout::both;
 use layout::either;
+use layout::put_field;
+use layout::wide32;
 use lengths::crowded;
-use lengths::mismatched;
 use lengths::refuse;
+use lengths::refuse_misfit;
 use packet::Writing;
+use plan::Plan;
+use plan::Planned;
 use rows::after;
 use rows::holds;
+use store::fill;
+use store::put_packet;
+use writing::Begin;
+use writing::Sized;
+use writing::put_loop;
+use writing::size_loop;
 
 // Whether the list is empty, or is not one packet without LEN.
 fn miscounted(p: Plan, lengths: &[u32]) -> bool
@@ -34,12 +43,85 @@ fn miscounted(p: Plan, lengths: &[u32]) -> bool
     either(n == 0, both(p.lenwidth == 0, n != 1))
 }
 
-// Whether the lengths differ from the bytes, or there are not as many as a frame takes.
-fn unmatched(p: Plan, lengths: &[u32], packets: &[u8]) -> bool
-    requires { ⌜ Ready p ⌝ }
-    ensures { λ r. ⌜ r ≡ (mismatchedOf (now (lengths .entry)) (now (packets .entry)) || miscountedOf (setting p) (now (lengths .entry))) ⌝ }
+// Sizes packets from a place on, the end of the packet before. Where they are not aligned the compiler makes a loop that does not align.
+fn size(p: Plan, q: usize, lengths: &[u32]) -> Sized
+    requires { ⌜ Sizing p q (now lengths) ⌝ }
+    ensures { λ r. ⌜ SizedAs p q (now (lengths .entry)) r ⌝ }
 {
-    either(mismatched(lengths, packets), miscounted(p, lengths))
+    if p.align == 1 {
+        return size_loop(3, 1, 1, p, q, lengths);
+    }
+    size_loop(3, 1, p.align, p, q, lengths)
+}
+
+// Writes packets behind the first one.
+fn put_others(p: Plan, b: Begin, packets: &[u8], lengths: &[u32], out: &mut [u8]) -> u32
+    requires { ⌜ Putting p b (now packets) (now lengths) (length (now out)) ⌝ }
+    ensures { λ r. ⌜ Wrote p b (now (packets .entry)) (now (lengths .entry)) (now (out .entry)) (now (out .exit)) r ⌝ }
+{
+    if p.align == 1 {
+        return put_loop(3, 1, 0, 1, 1, p, b, packets, lengths, out);
+    }
+    put_loop(3, 1, 0, 1, p.align, p, b, packets, lengths, out)
+}
+
+// Writes the header and the first packet at the front: the node first, CTR behind it, LEN at the header's end, free bytes between.
+fn put_first(p: Plan, out: &mut [u8], packet: &[u8], ctr: u32, free: u8)
+    requires { ⌜ Leading p (now out) (now packet) ⌝ }
+    ensures { λ _. ⌜ now (out .exit) ≡ sets (now (out .entry)) 0
+        (headBytes (setting p) free ctr (length (now (packet .entry))) ++ now (packet .entry)) ⌝ }
+{
+    fill(out, 0, p.size, free);
+    put_field(out, 0, 1, p.node);
+    put_field(out, 1, p.ctrwidth, wide32(ctr));
+    put_field(out, p.size - p.lenwidth, p.lenwidth, packet.len());
+    put_packet(out, p.size, packet);
+}
+
+// Writes all packets, of which there are some, from the front on.
+fn put_all(
+    p: Plan,
+    packets: &[u8],
+    lengths: &[u32],
+    first: u32,
+    free: u8,
+    end: usize,
+    out: &mut [u8],
+)
+    requires { ⌜ Roomy p (now packets) (now lengths) first end (length (now out)) ⌝ }
+    ensures { λ _. ⌜ now (out .exit) ≡ sets (now (out .entry)) 0 (framed p free first (now (lengths .entry)) (now (packets .entry))) ⌝ }
+{
+    let one = wide32(lengths[0]);
+    put_first(p, out, &packets[0..one], first, free);
+    let b = Begin {
+        q: p.size + one,
+        ctr: 0,
+        free,
+    };
+    put_others(further(p), b, &packets[one..], &lengths[1..], out);
+}
+
+// The byte behind a last packet that ends at e: zero where the next LEN would stand, else free.
+fn byte_after(p: Plan, e: usize, free: u8) -> u8
+    requires { ⌜ Ending p e ⌝ }
+    ensures { λ r. ⌜ r ≡ byteAfter (setting p) free e ⌝ }
+{
+    let next = start(p.align, e);
+    if both(p.lenwidth != 0, next == e + 1) {
+        return 0;
+    }
+    free
+}
+
+// Makes a frame even whose last packet ends at e.
+fn put_evening(p: Plan, out: &mut [u8], e: usize, free: u8)
+    requires { ⌜ Evening p (now out) e ⌝ }
+    ensures { λ _. ⌜ now (out .exit) ≡ sets (now (out .entry)) e (evening (setting p) free e) ⌝ }
+{
+    if e % 2 == 0 {
+        return;
+    }
+    out[e] = byte_after(p, e, free);
 }
 
 // Writes packets of which the last ends at a place, and the byte that evens the frame.
@@ -56,12 +138,12 @@ fn compose(
     ensures { λ _. ⌜ now (out .exit) ≡ sets (now (out .entry)) 0
         (frame (setting p) fill first (packetsOf (now (lengths .entry)) (now (packets .entry)))) ⌝ }
 {
-    put_all(p, packets, lengths, first, fill, out);
+    put_all(p, packets, lengths, first, fill, end, out);
     put_evening(p, out, end, fill);
 }
 
 // Lengths that fit: the last packet ends at a place.
-fn write_sized(
+fn write_fitted(
     p: Plan,
     packets: &[u8],
     lengths: &[u32],
@@ -84,8 +166,9 @@ fn write_sized(
     Writing::Bytes(count, next)
 }
 
-// Lengths that match the bytes are sized before a byte is written.
-fn write_matched(
+// The lengths are sized before a byte is written, from the header's last byte on, which is the first packet's LEN. Their sum comes with their
+// sizes, unless one does not fit.
+fn write_sized(
     p: Plan,
     packets: &[u8],
     lengths: &[u32],
@@ -93,17 +176,21 @@ fn write_matched(
     fill: u8,
     out: &mut [u8],
 ) -> Writing
-    requires { ⌜ Matching p (now packets) (now lengths) first ⌝ }
+    requires { ⌜ Counted p (now lengths) first ⌝ }
     ensures { λ r. ⌜ Gives (writeOf (setting p) (now (packets .entry)) (now (lengths .entry)) first fill (now (out .entry)))
         r (now (out .exit)) ⌝ }
 {
-    match size(p, lengths) {
-        Sized::Fits(end) => write_sized(p, packets, lengths, first, fill, end, out),
-        Sized::Misfit(i) => refuse(out, 3, i),
+    let z = size(further(p), p.size - 1, lengths);
+    if z.taken < lengths.len() {
+        return refuse_misfit(out, lengths, packets, z.taken);
     }
+    if z.sum != packets.len() {
+        return refuse(out, 2, 0);
+    }
+    write_fitted(p, packets, lengths, first, fill, z.behind.q, out)
 }
 
-// With a setting that is sound: the counter, then the lengths.
+// With a setting that is sound: the counter, then how many lengths there are.
 fn write_sound(
     p: Plan,
     packets: &[u8],
@@ -117,10 +204,13 @@ fn write_sound(
         r (now (out .exit)) ⌝ }
 {
     if holds(p.ctrwidth, first) {
-        if unmatched(p, lengths, packets) {
+        if miscounted(p, lengths) {
             return refuse(out, 2, 0);
         }
-        return write_matched(p, packets, lengths, first, fill, out);
+        if 4096 < lengths.len() {
+            return refuse(out, 2, 0);
+        }
+        return write_sized(p, packets, lengths, first, fill, out);
     }
     refuse(out, 1, 0)
 }

@@ -6,7 +6,7 @@ ghost use lib.Dec.{ltb};
 ghost use Rattle.packet.specs.Answer.{Gives, writeRefused};
 ghost use Rattle.packet.specs.Limit.{mostBytes, Short};
 ghost use Rattle.packet.specs.Packets.{mismatched as mismatchedOf};
-ghost use Rattle.lengths.specs.Lengths.{Few, Sum};
+ghost use Rattle.lengths.specs.Lengths.{Few, Sum, misfitOf};
 use layout::either;
 use layout::wide32;
 use packet::Writing;
@@ -41,6 +41,17 @@ pub fn refuse(out: &mut [u8], number: u32, place: usize) -> Writing
     ensures { λ r. ⌜ Gives (writeRefused (now (out .entry)) number place) r (now (out .exit)) ⌝ }
 {
     Writing::Refused(number, place as u32)
+}
+
+// Refuses a length that does not fit, at its index. Lengths that differ from the bytes come before it.
+pub fn refuse_misfit(out: &mut [u8], lengths: &[u32], packets: &[u8], i: usize) -> Writing
+    requires { ⌜ Short i ⌝ }
+    ensures { λ r. ⌜ Gives (misfitOf (now (lengths .entry)) (now (packets .entry)) (now (out .entry)) i) r (now (out .exit)) ⌝ }
+{
+    if mismatched(lengths, packets) {
+        return refuse(out, 2, 0);
+    }
+    refuse(out, 3, i)
 }
 
 // Whether n bytes do not fit an output of so many, or exceed the longest transfer.

@@ -1,7 +1,9 @@
 // What every transport shares: a message that was found, the counter state, kinds, parts of an input, and the answers.
 ghost use mathlib.Core.Path.{_≡_};
+ghost use Prim.Native.Nat.{_<_};
+ghost use lib.ListN.{length};
 ghost use Rattle.packet.specs.Counter.{difference, fresh};
-ghost use Rattle.packet.specs.Kind.{slave, master, kindOf};
+ghost use Rattle.packet.specs.Kind.{slave, master, kindFrom, kindOf};
 ghost use Rattle.packet.specs.Part.{partOf, checkOf};
 
 // The counter expected next, where known is not 0; the state is fresh where it is.
@@ -83,7 +85,7 @@ pub fn gap16(received: u16, expected: u16) -> u16
     std::num::wrapping_sub_u16(received, expected)
 }
 
-fn kind_from_slave(b: u8) -> u32
+fn kind_from_slave(b: u8) -> u8
     ensures { λ r. ⌜ r ≡ slave b ⌝ }
 {
     match b {
@@ -95,13 +97,31 @@ fn kind_from_slave(b: u8) -> u32
     }
 }
 
-fn kind_from_master(b: u8) -> u32
+fn kind_from_master(b: u8) -> u8
     ensures { λ r. ⌜ r ≡ master b ⌝ }
 {
     match b {
         0xC0..=0xFF => 6,
         0x00..=0xBF => 7,
     }
+}
+
+fn number(kind: u8) -> u32
+    ensures { λ r. ⌜ r ≡ kind ⌝ }
+{
+    kind as u32
+}
+
+// The kind of the packet at the start of a part that has bytes, from the slave or from the master. A byte is matched to a byte and widened
+// afterwards, which the compiler does without a branch.
+pub fn kind_of(slaves: bool, packet: &[u8]) -> u32
+    requires { ⌜ 0 < length (now packet) ⌝ }
+    ensures { λ r. ⌜ r ≡ kindFrom slaves (now (packet .entry)) ⌝ }
+{
+    if slaves {
+        return number(kind_from_slave(packet[0]));
+    }
+    number(kind_from_master(packet[0]))
 }
 
 // The kind of the packet at the part's start, by its first byte; 0 for an empty part or a direction above 1.
@@ -112,8 +132,8 @@ pub fn kind(direction: u32, packet: &[u8]) -> u32
         return 0;
     }
     match direction {
-        0 => kind_from_slave(packet[0]),
-        1 => kind_from_master(packet[0]),
+        0 => kind_of(true, packet),
+        1 => kind_of(false, packet),
         _ => 0,
     }
 }

@@ -27,14 +27,15 @@ use Rattle.lent.specs.Told.{Tells}
 use Rattle.lent.proofs.ThinCounter.{one-telling}
 use Rattle.lengths.proofs.mismatched.Reads as Mismatched
 use Rattle.lengths.proofs.crowded.Reads as Crowded
+use Rattle.plan.proofs.joined.Reads as Joined
+use Rattle.plan.proofs.rests.Reads as Rests
 use Rattle.usb.proofs.shape.Reads as UsbShape
-use Rattle.usb_plan.proofs.PlanLaws as UsbPlans
 use Rattle.usb_plan.proofs.plan_for.Reads as UsbPlanFor
 use Rattle.usb_reader.proofs.read.Reads as UsbRead
 use Rattle.usb_writer.proofs.write.Reads as UsbWrite
 use Rattle.settings.proofs.settings.Reads as Settings
 use Rattle.flexray.proofs.listed.Reads as FlexRayListed
-use Rattle.flexray_plan.proofs.PlanLaws as FlexRayPlans
+use Rattle.flexray_plan.proofs.further.Reads as FlexRayFurther
 use Rattle.flexray_plan.proofs.plan_for.Reads as FlexRayPlanFor
 use Rattle.flexray_reader.proofs.read.Reads as FlexRayRead
 use Rattle.flexray_writer.proofs.write.Reads as FlexRayWrite
@@ -145,15 +146,25 @@ settings x a r u e f = same
 pub usb-shape : (x : _) (a : _) → One (UsbShape.Post x a)
 usb-shape x a r u e f = same
 
+-- a plan of numbers, and the layouts that have rests
+pub joined : (x : _) (a : _) → One (Joined.Post x a)
+joined x a r u e f = same
+
+pub rests : (x : _) (a : _) → One (Rests.Post x a)
+rests x a r u e f = same
+
 -- the plan of a setting, or that it is not sound
 pub usb-plan-for : (x : _) (a : _) → One (UsbPlanFor.Post x a)
-usb-plan-for x a r u e f = UsbPlans.one-plan (a .0) r u
+usb-plan-for x a r u e f = same
 
 pub flexray-listed : (x : _) (a : _) → One (FlexRayListed.Post x a)
 flexray-listed x a r u e f = same
 
+pub flexray-further : (x : _) (a : _) → One (FlexRayFurther.Post x a)
+flexray-further x a r u e f = same
+
 pub flexray-plan-for : (x : _) (a : _) → One (FlexRayPlanFor.Post x a)
-flexray-plan-for x a r u e f = FlexRayPlans.one-plan (a .0) r u
+flexray-plan-for x a r u e f = same
 
 ---- Packets --------------------------------------------------------------------------------------------------------------------
 

@@ -34,7 +34,7 @@ use Rattle.spelling.specs.Put.{Reports}
 use Rattle.rowtext.specs.Put.{Prepared}
 use Rattle.rowtext.specs.Text.{programText}
 use Rattle.rowtext.proofs.report.Reads as Report
-use Rattle.blocks.specs.Blocks.{Inside}
+use Rattle.store.specs.Store.{Inside}
 use Rattle.keywords.specs.Saying.{told as meant}
 use Rattle.settingtext.specs.Text.{argument as argumentOf, programText as settingText}
 use Rattle.settingtext.proofs.argument.Reads as Argument

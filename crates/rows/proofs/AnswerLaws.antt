@@ -60,20 +60,12 @@ module _ (told : List Msg → List ℕ) (state : List Msg → Counter) (rows : L
 
   -- it was judged, and is refused as it was judged; as many rows as were counted have no room; they have, and are written
   module _ {o : Out Msg} {m : ℕ} {r : Reading} {new : List ℕ} where
-    pub is-refused : {n p : ℕ} → JudgedAs o m (Refused n p) → Gives (readRefused rows n p) r new → Gives (answerOf true o) r new
+    pub is-refused : {n p : ℕ} → JudgedAs 0 o m (Refused n p) → Gives (readRefused rows n p) r new → Gives (answerOf true o) r new
     is-refused j g = gives-so (as-refused o (j .is)) g
 
-    pub is-crowded : {k : ℕ} → JudgedAs o m (Rows k) → length rows < 5 * k → Gives (readRefused rows 4 0) r new → Gives (answerOf true o) r new
+    pub is-crowded : {k : ℕ} → JudgedAs 0 o m (Rows k) → length rows < 5 * k → Gives (readRefused rows 4 0) r new → Gives (answerOf true o) r new
     is-crowded j l g = gives-so (as-crowded o (j .is) l) g
 
-  pub is-given : {o : Out Msg} {m k : ℕ} → JudgedAs o m (Rows k) → 5 * k ≤ length rows → {new : List ℕ} {d : Counter}
+  pub is-given : {o : Out Msg} {m k : ℕ} → JudgedAs 0 o m (Rows k) → 5 * k ≤ length rows → {new : List ℕ} {d : Counter}
       → filled new d ≡ fillOf told state rows 0 o → Gives (answerOf true o) (R.Rows k d) new
   is-given {o} j l f = gives (as-given o (j .is) l f)
-
--- a table with five numbers for each row that was counted has room
-room-as : (n k : ℕ) (o : Out Msg) → Rows k ≡ counted 0 o → 5 * k ≤ n → Room n 0 o
-room-as n k (list ms) e h = let d : k ≡ 0 + length ms = cc in omega arith
-room-as n k (refused a q) e h = let z : _≡_ {A = ℕ} 0 1 = cc in absurd (omega arith)
-
-pub has-room : {o : Out Msg} {m k : ℕ} → JudgedAs o m (Rows k) → (n : ℕ) → 5 * k ≤ n → Room n 0 o
-has-room {o} {m} {k} j n l = room-as n k o (j .is) l

@@ -2,5 +2,4 @@ pub mod AnswerLaws
 pub mod CounterLaws
 pub mod CountLaws
 pub mod FillLaws
-pub mod LoopLaws
 pub mod RowLaws

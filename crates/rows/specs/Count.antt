@@ -17,12 +17,7 @@ abbrev pub Small : ℕ → Judged → Type 0
 Small n (Rows k) = k ≤ n
 Small n (Refused a q) = q ≤ n
 
--- the whole of an input of n bytes is judged to be r
-pub record JudgedAs (whole : Out Msg) (n : ℕ) (r : Judged) : Type 0 where
-  pub is : r ≡ counted 0 whole
+-- what is ahead behind j rows of an input of n bytes is judged to be r
+pub record JudgedAs (j : ℕ) (ahead : Out Msg) (n : ℕ) (r : Judged) : Type 0 where
+  pub is : r ≡ counted j ahead
   pub small : Small n r
-
--- k rows were counted up to place q, and `now` is ahead
-pub record Counting (whole now : Out Msg) (q k : ℕ) : Type 0 where
-  pub few : k ≤ q
-  pub same : counted 0 whole ≡ counted k now

@@ -1,4 +1,3 @@
-pub mod Ahead
 pub mod Count
 pub mod Counters
 pub mod Fill

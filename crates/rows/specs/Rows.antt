@@ -1,5 +1,5 @@
 -- What the functions about one row ask and tell: of a message of the input t, whose counter has w bytes, read in direction d.
-use Prim.Native.Nat.{ℕ, _+_, _≤_}
+use Prim.Native.Nat.{ℕ, _+_, _<_, _≤_}
 use mathlib.Core.Path.{_≡_}
 use mathlib.Core.List.{List}
 use lib.ListN.{length}
@@ -12,14 +12,16 @@ use Rattle.packet.specs.Row.{row, numbers}
 use Rattle.packet.specs.Seen.{message}
 use Rattle.rows.specs.Counters.{Sane, Counted}
 
-pub record Rowable (w : ℕ) (t : List ℕ) (c : Counter) (m : Found) : Type 0 where
+pub record Rowable (d w : ℕ) (t : List ℕ) (c : Counter) (m : Found) : Type 0 where
+  pub way : d < 2
+  pub some : 0 < m .len
   pub small : length t ≤ mostBytes
   pub inside : m .at + m .len ≤ length t
   pub counted : Counted w c (m .ctr)
 
 -- the row goes to place i of n numbers
-pub record Putting (w : ℕ) (t : List ℕ) (c : Counter) (m : Found) (i n : ℕ) : Type 0 where
-  pub message : Rowable w t c m
+pub record Putting (d w : ℕ) (t : List ℕ) (c : Counter) (m : Found) (i n : ℕ) : Type 0 where
+  pub message : Rowable d w t c m
   pub room : i + 5 ≤ n
 
 pub record Put (d w : ℕ) (t : List ℕ) (c : Counter) (m : Found) (i : ℕ) (old new : List ℕ) (r : Counter) : Type 0 where

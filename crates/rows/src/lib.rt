@@ -19,8 +19,7 @@ use packet::Reading;
 use packet::Row;
 use packet::gap8;
 use packet::gap16;
-use packet::kind;
-use packet::part;
+use packet::kind_of;
 
 // How many rows an input has, or its first refusal.
 pub enum Judged {
@@ -111,19 +110,18 @@ fn advance(width: usize, c: Counter, n: u32) -> Counter
     Counter { known: 1, expected }
 }
 
-// The row of a message. Its kind is that of its part of the input.
+// The row of a message. Its kind is that of the packet's part of the input.
 fn row_of(direction: u32, width: usize, t: &[u8], c: Counter, m: Found) -> Row
-    requires { ⌜ Rowable width (now t) c m ⌝ }
+    requires { ⌜ Rowable direction width (now t) c m ⌝ }
     ensures { λ r. ⌜ r ≡ row direction width c (message (now (t .entry)) m) ⌝ }
 {
-    let place = m.at as u32;
-    let length = m.len as u32;
+    let at = m.at;
     Row {
-        place,
-        length,
+        place: m.at as u32,
+        length: m.len as u32,
         counter: m.ctr,
         gap: gap(width, c, m.ctr),
-        kind: kind(direction, part(t, place, length)),
+        kind: kind_of(direction == 0, &t[at..]),
     }
 }
 
@@ -148,7 +146,7 @@ pub fn put(
     rows: &mut [u32],
     i: usize,
 ) -> Counter
-    requires { ⌜ Putting width (now t) c m i (length (now rows)) ⌝ }
+    requires { ⌜ Putting direction width (now t) c m i (length (now rows)) ⌝ }
     ensures { λ r. ⌜ Put direction width (now (t .entry)) c m i (now (rows .entry)) (now (rows .exit)) r ⌝ }
 {
     put_row(rows, i, row_of(direction, width, t, c, m));

@@ -6,16 +6,14 @@ use mathlib.Core.Path.{_≡_, refl, sym, ap, _∙_, subst}
 use mathlib.Core.Bool.{Bool, true, false, true≢false, _||_}
 use mathlib.Core.List.{List, [], _∷_, _++_}
 use lib.ListN.{length, take, drop, getD}
-use lib.Seq.{slice, slice-empty, slice-cons, length-take-le, take-add, drop-append-le}
+use lib.Seq.{slice, slice-empty, slice-cons, length-take-le, take-add, drop-drop, drop-append-le}
 use Rattle.layout.proofs.PartLaws.{drop-next}
 use Rattle.runs.specs.Runs.{orSome, some, Run}
 
--- eight bytes as they are read one by one
-pub eight-is : (t : List ℕ) (k : ℕ) → k + 8 ≤ length t
-    → getD t k 0 ∷ getD t (k + 1) 0 ∷ getD t (k + 2) 0 ∷ getD t (k + 3) 0
-    ∷ getD t (k + 4) 0 ∷ getD t (k + 5) 0 ∷ getD t (k + 6) 0 ∷ getD t (k + 7) 0 ∷ []
-    ≡ take 8 (drop k t)
-eight-is t k h =
+-- bytes as they are read one by one
+pub four-is : (t : List ℕ) (k : ℕ) → k + 4 ≤ length t
+    → getD t k 0 ∷ getD t (k + 1) 0 ∷ getD t (k + 2) 0 ∷ getD t (k + 3) 0 ∷ [] ≡ take 4 (drop k t)
+four-is t k h =
     sym (rw (
       drop-next t k (omega arith),
       drop-next t (k + 1) (omega arith),
@@ -23,15 +21,15 @@ eight-is t k h =
       drop-next t (k + 2) (omega arith),
       add-assoc,
       drop-next t (k + 3) (omega arith),
-      add-assoc,
-      drop-next t (k + 4) (omega arith),
-      add-assoc,
-      drop-next t (k + 5) (omega arith),
-      add-assoc,
-      drop-next t (k + 6) (omega arith),
-      add-assoc,
-      drop-next t (k + 7) (omega arith),
     ))
+
+pub eight-is : (t : List ℕ) (k : ℕ) → k + 8 ≤ length t
+    → getD t k 0 ∷ getD t (k + 1) 0 ∷ getD t (k + 2) 0 ∷ getD t (k + 3) 0
+    ∷ getD t (k + 4) 0 ∷ getD t (k + 5) 0 ∷ getD t (k + 6) 0 ∷ getD t (k + 7) 0 ∷ []
+    ≡ take 8 (drop k t)
+eight-is t k h =
+    let fours : take 8 (drop k t) ≡ take 4 (drop k t) ++ take 4 (drop (k + 4) t) = take-add 4 4 (drop k t) ∙ rw (drop-drop 4 k t) in
+    sym (fours ∙ rw (← four-is t k (omega arith), ← four-is t (k + 4) (omega arith)) (simp add-assoc))
 
 neither : (a b : Bool) → (a || b) ≡ false → (a ≡ false) × (b ≡ false)
 neither true b e = absurd (true≢false e)

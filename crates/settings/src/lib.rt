@@ -11,8 +11,8 @@ use description::Endpoint;
 use description::Outcome;
 use description::Said;
 use layout::both;
+use plan::Planned;
 use usb::Setting;
-use usb_plan::Planned;
 use usb_plan::plan_for;
 
 fn narrow(n: usize) -> u32

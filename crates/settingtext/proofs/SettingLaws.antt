@@ -6,7 +6,7 @@ use mathlib.Core.List.{List}
 use lib.ListN.{length}
 use lib.Seq.{slice, take-length}
 use borrow.Author.Tests.{eq-eqb, ne-eqb}
-use Rattle.blocks.specs.Blocks.{Inside}
+use Rattle.store.specs.Store.{Inside}
 use Rattle.keywords.specs.declared.Meant.{Meant}
 use Rattle.keywords.specs.declared.Meant.the-variants.{Nothing, Value}
 use Rattle.keywords.specs.Saying.{told}

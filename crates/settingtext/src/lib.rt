@@ -1,6 +1,6 @@
 // The text of the settings that a description file says: a line for each endpoint, or the line of a refusal.
 ghost use mathlib.Core.Path.{_≡_};
-ghost use Rattle.blocks.specs.Blocks.{Inside};
+ghost use Rattle.store.specs.Store.{Inside};
 ghost use Rattle.keywords.specs.Saying.{told};
 ghost use Rattle.spelling.specs.Put.{Puts, Reports};
 ghost use Rattle.settingtext.specs.Text.{numbersOf, linesOf, describedText, argument as argumentOf, programText};

@@ -1,6 +1,6 @@
 // Text that is put into a lent output: bytes, numbers in decimal, and the line of a refusal.
 ghost use lib.ListN.{length};
-ghost use Rattle.blocks.specs.Blocks.{Inside};
+ghost use Rattle.store.specs.Store.{Inside, Short};
 ghost use Rattle.spelling.specs.Put.{Spelt, Puts};
 ghost use Rattle.spelling.specs.Text.{word, refusedText};
 use store::put_packet;
@@ -14,7 +14,7 @@ fn spell(n: u32, text: &mut [u8; 20]) -> usize
 
 // Puts bytes from a place on, and gives the place behind them.
 pub fn put_bytes(out: &mut [u8], at: usize, bytes: &[u8]) -> usize
-    requires { ⌜ Inside (now out) at (length (now bytes)) ⌝ }
+    requires { ⌜ Short (now out) at (length (now bytes)) 0 65536 ⌝ }
     ensures { λ r. ⌜ Puts (now (out .entry)) at (now (bytes .entry)) (length (now (bytes .entry))) (now (out .exit)) r ⌝ }
 {
     put_packet(out, at, bytes);

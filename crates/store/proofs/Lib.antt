@@ -1,3 +1,3 @@
-pub mod HeaderLaws
+pub mod FewLaws
 pub mod OverLaws
 pub mod StoreLaws

@@ -5,9 +5,9 @@ use native.Mathlib.Nat.{add-zero, add-suc, suc-add, sub-zero}
 use mathlib.Core.Path.{_≡_, refl, sym, ap, _∙_}
 use mathlib.Core.List.{List, [], _∷_, _++_, append-nil}
 use lib.ListN.{length, set, take, drop, replicate, length-take, length-drop, length-replicate, drop-of-length-le}
-use lib.Seq.{sets, take-all, drop-drop, set-set, length-sets}
-use Rattle.blocks.specs.Blocks.{block}
-use Rattle.store.proofs.StoreLaws.{Left, set-before}
+use lib.Seq.{sets, take-all, set-set}
+use Rattle.store.specs.Store.{block}
+use Rattle.store.proofs.StoreLaws.{set-before}
 
 ---- A block over another -------------------------------------------------------------------------------------------------------
 
@@ -47,25 +47,6 @@ part-ends bs out at k m l h x e y z =
     let d : length (drop (length bs - m) bs) ≡ length bs - (length bs - m) = length-drop (length bs - m) bs in
     let t : block bs (length bs - m) m ≡ drop (length bs - m) bs = take-all m (drop (length bs - m) bs) (omega arith) in
     z ∙ rw (x, e, y, t) (over bs out at (length bs - m) k (omega arith))
-
----- The turns of a loop --------------------------------------------------------------------------------------------------------
-
--- the bytes from i on are left, and n of them are put
-module _ {old bs out : List ℕ} {at : ℕ} (i : ℕ) (l : Left old at bs out (at + i) (drop i bs)) (n : ℕ) {one : List ℕ}
-    (x : one ≡ sets out (at + i) (block bs i n)) where
-  pub left-turn : (j : ℕ) → i ≤ j → j ≤ i + n → Left old at bs one (at + j) (drop j bs)
-  left-turn j a b =
-      let e : i + (j - i) ≡ j = omega arith in
-      let f : at + i + (j - i) ≡ at + j = omega arith in
-      let o : sets (sets out (at + i) (block bs i n)) (at + i + (j - i)) (drop (j - i) (drop i bs)) ≡ sets out (at + i) (drop i bs) =
-      over (drop i bs) out (at + i) (j - i) n (omega arith) in
-      record {
-        same = l .same ∙ sym (rw x (rw (f, drop-drop (j - i) i bs, e) at o));
-        long = ap length x ∙ length-sets out (at + i) (block bs i n) ∙ l .long;
-      }
-
-  pub left-end : length bs ≤ i + n → one ≡ sets old at bs
-  left-end h = x ∙ rw (take-all n (drop i bs) (simp length-drop (omega arith))) (sym (l .same))
 
 ---- Free bytes -----------------------------------------------------------------------------------------------------------------
 

@@ -5,36 +5,48 @@ use native.Mathlib.Nat.{add-zero, zero-add, add-suc, suc-add}
 use native.Mathlib.Numerals.{add-one}
 use mathlib.Core.Path.{_≡_, refl, sym, ap, _∙_}
 use mathlib.Core.List.{List, [], _∷_, _++_, append-nil, append-assoc}
-use lib.ListN.{length, set, take, drop, replicate, length-set, length-drop, take-append-drop, drop-of-length-le}
-use lib.Seq.{sets, take-all, set-set, set-comm, take-set-le, drop-set-add}
+use lib.ListN.{length, getD, set, take, drop, length-set, length-drop, take-append-drop, drop-of-length-le}
+use lib.Seq.{sets, sets-eq, take-all, take-at, take-suc, length-take-le, getD-take, getD-drop, set-set, set-comm, take-set-le, drop-set-add}
+use Rattle.layout.proofs.PartLaws.{long}
 use Rattle.layout.proofs.RunLaws.{sets-append}
+use Rattle.store.specs.Store.{block}
 
 ---- The loops ------------------------------------------------------------------------------------------------------------------
 
--- of vs, to be put at a place, ws is left, to be put from i on
-pub record Left (old : List ℕ) (at : ℕ) (vs out : List ℕ) (i : ℕ) (ws : List ℕ) : Type 0 where
-  pub same : sets old at vs ≡ sets out i ws
+-- of the n bytes vs, to be put at a place, the first i are put
+pub record Put (old : List ℕ) (at : ℕ) (vs : List ℕ) (n : ℕ) (out : List ℕ) (i : ℕ) : Type 0 where
+  pub count : length vs ≡ n
+  pub inside : i ≤ n
+  pub same : out ≡ sets old at (take i vs)
   pub long : length out ≡ length old
 
-pub left-start : {old : List ℕ} {at : ℕ} {vs : List ℕ} {i : ℕ} {ws : List ℕ} → i ≡ at → ws ≡ vs → Left old at vs old i ws
-left-start e f = record { same = rw (e, f); long = refl }
+pub put-none : {old : List ℕ} {at : ℕ} {vs : List ℕ} {n : ℕ} → length vs ≡ n → Put old at vs n old 0
+put-none e = record { count = e; inside = omega arith; same = refl; long = refl }
 
-module _ {old : List ℕ} {at : ℕ} {vs out : List ℕ} {i : ℕ} {ws : List ℕ} (l : Left old at vs out i ws) where
-  pub left-next : {w : ℕ} {us : List ℕ} → ws ≡ w ∷ us → {j : ℕ} → j ≡ i + 1 → Left old at vs (set out i w) j us
-  left-next {w} e f = record { same = l .same ∙ rw (e, f, add-one); long = length-set out i w ∙ l .long }
+module _ {old : List ℕ} {at : ℕ} {vs : List ℕ} {n : ℕ} {out : List ℕ} {i : ℕ} (p : Put old at vs n out i) where
+  pub put-next : {w : ℕ} → i < n → getD vs i 0 ≡ w → Put old at vs n (set out (at + i) w) (i + 1)
+  put-next {w} h e =
+      let t : take (i + 1) vs ≡ take i vs ++ (w ∷ []) = rw (add-one, ← e) (take-suc vs i 0 (omega arith)) in
+      let l : length (take i vs) ≡ i = length-take-le i vs (omega arith) in
+      record {
+        count = p .count;
+        inside = omega arith;
+        same = rw (p .same, t) (sym (sets-append (take i vs) (w ∷ []) old at ∙ rw l));
+        long = length-set out (at + i) w ∙ p .long;
+      }
 
-  pub left-none : ws ≡ [] → out ≡ sets old at vs
-  left-none e = sym (l .same ∙ rw e)
+  pub put-all : n ≤ i → out ≡ sets old at vs
+  put-all h = p .same ∙ rw (take-all i vs (omega arith))
 
-pub replicate-next : (b i end : ℕ) → i < end → replicate (end - i) b ≡ b ∷ replicate (end - (i + 1)) b
-replicate-next b i end h =
-    let e : end - i ≡ suc (end - (i + 1)) = omega arith in
-    rw e
+pub block-at : (bs : List ℕ) (i n k : ℕ) → k < n → getD (block bs i n) k 0 ≡ getD bs (i + k) 0
+block-at bs i n k h = getD-take n (drop i bs) k 0 h ∙ getD-drop i bs k 0
 
-pub replicate-none : (b i end : ℕ) → end ≤ i → replicate (end - i) b ≡ []
-replicate-none b i end h =
-    let e : end - i ≡ 0 = omega arith in
-    rw e
+-- a block that is put at the front of other bytes, and from there at a place
+pub put-through : (bs mid old : List ℕ) (at i n : ℕ) → i + n ≤ length bs → n ≤ length mid → {one two : List ℕ}
+    → one ≡ sets mid 0 (block bs i n) → two ≡ sets old at (block one 0 n) → two ≡ sets old at (block bs i n)
+put-through bs mid old at i n l h x y =
+    let c : length (block bs i n) ≡ n = long bs i n l in
+    y ∙ rw (x, sets-eq (block bs i n) mid 0 (omega arith), take-at (block bs i n) _ n c)
 
 ---- The rest of an output ------------------------------------------------------------------------------------------------------
 

@@ -1,19 +1,32 @@
 -- What putting bytes into a lent output asks and tells.
-use Prim.Native.Nat.{ℕ, _+_, _≤_}
-use mathlib.Core.List.{List}
-use lib.ListN.{length, replicate}
+use Prim.Native.Nat.{ℕ, zero, suc, _+_, _≤_}
+use mathlib.Core.List.{List, [], _∷_}
+use lib.ListN.{length, take, drop, replicate}
 use lib.Seq.{sets}
-use Rattle.layout.specs.Field.{bytes}
-use Rattle.layout.specs.declared.Shape.{Shape}
 
--- a header of this shape has room, and its fields lie inside it
-pub record Headed (out : List ℕ) (k : Shape) : Type 0 where
-  pub room : k .size ≤ length out
-  pub len-narrow : k .lenwidth ≤ 2
-  pub len-inside : k .lenat + k .lenwidth ≤ k .size
-  pub ctr-narrow : k .ctrwidth ≤ 2
-  pub ctr-inside : k .ctrat + k .ctrwidth ≤ k .size
+-- a run of n bytes has room
+pub record Inside (out : List ℕ) (at n : ℕ) : Type 0 where
+  pub room : at + n ≤ length out
 
--- the header's bytes are free, and then LEN and CTR are put
-abbrev pub headed : List ℕ → Shape → ℕ → ℕ → ℕ → List ℕ
-headed out k len ctr free = sets (sets (sets out 0 (replicate (k .size) free)) (k .lenat) (bytes (k .lenwidth) len)) (k .ctrat) (bytes (k .ctrwidth) ctr)
+-- a run of low to high bytes has room
+pub record Short (out : List ℕ) (at n low high : ℕ) : Type 0 where
+  pub least : low ≤ n
+  pub most : n ≤ high
+  pub room : at + n ≤ length out
+
+-- the n bytes from i on are there, have room, and are no more than a block holds
+pub record Copyable (out : List ℕ) (at : ℕ) (bs : List ℕ) (i n : ℕ) : Type 0 where
+  pub room : at + n ≤ length out
+  pub there : i + n ≤ length bs
+  pub most : n ≤ 65536
+
+-- one to three bytes, by the first, the middle and the last
+abbrev pub few : ℕ → ℕ → ℕ → ℕ → List ℕ
+few zero first middle last = []
+few (suc zero) first middle last = last ∷ []
+few (suc (suc zero)) first middle last = first ∷ last ∷ []
+few (suc (suc (suc n))) first middle last = first ∷ middle ∷ last ∷ []
+
+-- the n bytes from i on
+abbrev pub block : List ℕ → ℕ → ℕ → List ℕ
+block bs i n = take n (drop i bs)

@@ -1,22 +1,31 @@
-// Bytes put into a lent output: free bytes, a packet, a header.
+// Bytes put into a lent output: free bytes, a packet.
 ghost use mathlib.Core.Path.{_≡_};
-ghost use Prim.Native.Nat.{_≤_};
+ghost use Prim.Native.Nat.{_+_, _≤_};
 ghost use lib.ListN.{length, replicate};
 ghost use lib.Seq.{sets};
-ghost use Rattle.blocks.specs.Blocks.{Inside, Short};
-ghost use Rattle.store.specs.Store.{Headed, headed};
-use blocks::Four;
-use blocks::copy_eight;
-use blocks::copy_four;
-use blocks::copy_sixteen;
-use blocks::copy_sixty_four;
-use blocks::copy_thirty_two;
-use blocks::put_few;
-use blocks::put_four;
-use layout::Shape;
-use layout::least;
-use layout::put_field;
-use layout::wide32;
+ghost use Rattle.store.specs.Store.{Inside, Short, Copyable, few, block};
+
+// Puts one to three bytes from a place on: the first, the middle and the last.
+fn put_few(out: &mut [u8], at: usize, n: usize, first: u8, middle: u8, last: u8)
+    requires { ⌜ Short (now out) at n 1 3 ⌝ }
+    ensures { λ _. ⌜ now (out .exit) ≡ sets (now (out .entry)) at (few n first middle last) ⌝ }
+{
+    out[at] = first;
+    out[at + n / 2] = middle;
+    out[at + n - 1] = last;
+}
+
+// Puts n free bytes from a place on: by one store where n is known at the call, else by a call of memset.
+pub fn set(out: &mut [u8], at: usize, n: usize, free: u8)
+    requires { ⌜ Inside (now out) at n ⌝ }
+    ensures { λ _. ⌜ now (out .exit) ≡ sets (now (out .entry)) at (replicate n free) ⌝ }
+{
+    let mut i: usize = 0;
+    while i < n {
+        out[at + i] = free;
+        i += 1;
+    }
+}
 
 // Puts at most eight free bytes from a place on, the first four and the last four.
 fn fill_few(out: &mut [u8], at: usize, n: usize, free: u8)
@@ -24,9 +33,8 @@ fn fill_few(out: &mut [u8], at: usize, n: usize, free: u8)
     ensures { λ _. ⌜ now (out .exit) ≡ sets (now (out .entry)) at (replicate n free) ⌝ }
 {
     if 4 <= n {
-        let f = Four(free, free, free, free);
-        put_four(out, at, f);
-        put_four(out, at + n - 4, f);
+        set(out, at, 4, free);
+        set(out, at + n - 4, 4, free);
         return;
     }
     if n == 0 {
@@ -44,82 +52,68 @@ pub fn fill(out: &mut [u8], at: usize, n: usize, free: u8)
         fill_few(out, at, n, free);
         return;
     }
-    let end = at + n;
-    let mut i = at;
-    while i < end {
-        out[i] = free;
+    set(out, at, n, free);
+}
+
+// Copies n bytes of a part one by one.
+fn copy_each(out: &mut [u8], at: usize, part: &[u8], from: usize, n: usize)
+    requires { ⌜ Copyable (now out) at (now part) from n ⌝ }
+    ensures { λ _. ⌜ now (out .exit) ≡ sets (now (out .entry)) at (block (now (part .entry)) from n) ⌝ }
+{
+    let mut i: usize = 0;
+    while i < n {
+        out[at + i] = part[from + i];
         i += 1;
     }
 }
 
-// Copies a part of less than eight bytes.
-fn copy_few(out: &mut [u8], at: usize, part: &[u8])
-    requires { ⌜ Short (now out) at (length (now part)) 0 7 ⌝ }
-    ensures { λ _. ⌜ now (out .exit) ≡ sets (now (out .entry)) at (now (part .entry)) ⌝ }
+// Copies n bytes of a part by a block of its own. All bytes are read before one is written, and nothing else tells the compiler that what
+// is read and what is written lie apart: it leaves the block out and moves the bytes at once, by a few moves where n is known at the call,
+// else by a call of memmove.
+fn copy(out: &mut [u8], at: usize, part: &[u8], from: usize, n: usize)
+    requires { ⌜ Copyable (now out) at (now part) from n ⌝ }
+    ensures { λ _. ⌜ now (out .exit) ≡ sets (now (out .entry)) at (block (now (part .entry)) from n) ⌝ }
 {
-    let n = part.len();
-    if 4 <= n {
-        copy_four(out, at, part, 0);
-        copy_four(out, at + n - 4, part, n - 4);
-        return;
-    }
-    if n == 0 {
-        return;
-    }
-    put_few(out, at, n, part[0], part[n / 2], part[n - 1]);
+    let mut block: [u8; 65536] = [0; 65536];
+    copy_each(&mut block, 0, part, from, n);
+    copy_each(out, at, &block, 0, n);
 }
 
-// Copies a part of sixty-four bytes or more. The last block ends where the part ends, and may lie over bytes that are copied already.
-fn copy_many(out: &mut [u8], at: usize, part: &[u8])
-    requires { ⌜ Inside (now out) at (length (now part)) ⌝ }
-    requires { ⌜ 64 ≤ length (now part) ⌝ }
-    ensures { λ _. ⌜ now (out .exit) ≡ sets (now (out .entry)) at (now (part .entry)) ⌝ }
+// Copies a packet of m to twice as many bytes: the first m and the last m, which may lie over the first.
+fn copy_ends(out: &mut [u8], at: usize, packet: &[u8], m: usize)
+    requires { ⌜ Short (now out) at (length (now packet)) m (m + m) ⌝ }
+    requires { ⌜ m ≤ 65536 ⌝ }
+    ensures { λ _. ⌜ now (out .exit) ≡ sets (now (out .entry)) at (now (packet .entry)) ⌝ }
 {
-    let last = part.len() - 64;
-    let mut i: usize = 0;
-    loop {
-        copy_sixty_four(out, at + i, part, i);
-        if i == last {
-            return;
-        }
-        i = least(i + 64, last);
-    }
+    let last = packet.len() - m;
+    copy(out, at, packet, 0, m);
+    copy(out, at + last, packet, last, m);
 }
 
-// Copies a packet to a place: a short one by its first block and its last, which may lie over the first.
+// Copies a packet to a place. How many bytes of a short one go at once is written out, so that each end goes by a move.
 pub fn put_packet(out: &mut [u8], at: usize, packet: &[u8])
-    requires { ⌜ Inside (now out) at (length (now packet)) ⌝ }
+    requires { ⌜ Short (now out) at (length (now packet)) 0 65536 ⌝ }
     ensures { λ _. ⌜ now (out .exit) ≡ sets (now (out .entry)) at (now (packet .entry)) ⌝ }
 {
     let n = packet.len();
+    if n == 0 {
+        return;
+    }
+    if n < 4 {
+        put_few(out, at, n, packet[0], packet[n / 2], packet[n - 1]);
+        return;
+    }
     if n < 8 {
-        copy_few(out, at, packet);
+        copy_ends(out, at, packet, 4);
         return;
     }
-    if n < 16 {
-        copy_eight(out, at, packet, 0);
-        copy_eight(out, at + n - 8, packet, n - 8);
+    if n <= 16 {
+        copy_ends(out, at, packet, 8);
         return;
     }
-    if n < 32 {
-        copy_sixteen(out, at, packet, 0);
-        copy_sixteen(out, at + n - 16, packet, n - 16);
+    if n <= 32 {
+        copy_ends(out, at, packet, 16);
         return;
     }
-    if n < 64 {
-        copy_thirty_two(out, at, packet, 0);
-        copy_thirty_two(out, at + n - 32, packet, n - 32);
-        return;
-    }
-    copy_many(out, at, packet);
-}
-
-// Puts a header at the front: LEN and CTR, and the free byte where it has neither.
-pub fn put_header(out: &mut [u8], k: Shape, len: usize, ctr: u32, free: u8)
-    requires { ⌜ Headed (now out) k ⌝ }
-    ensures { λ _. ⌜ now (out .exit) ≡ headed (now (out .entry)) k len ctr free ⌝ }
-{
-    fill(out, 0, k.size, free);
-    put_field(out, k.lenat, k.lenwidth, len);
-    put_field(out, k.ctrat, k.ctrwidth, wide32(ctr));
+    copy(out, at, packet, 0, n);
 }

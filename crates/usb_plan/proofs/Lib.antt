@@ -1,2 +1,1 @@
-pub mod PlaceLaws
 pub mod PlanLaws

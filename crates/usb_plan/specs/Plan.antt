@@ -1,24 +1,23 @@
--- A plan and a place, in the layout's terms. What follows from a sound setting stands here in numbers, so that a proof finds it by itself.
-use Prim.Native.Nat.{ℕ, _+_, _-_, _%_, _<_, _≤_}
+-- A plan, in the layout's terms. What follows from a sound setting stands here in numbers, so that a proof finds it by itself.
+use Prim.Native.Nat.{ℕ, _+_, _%_, _<_, _≤_}
 use mathlib.Core.Path.{_≡_}
-use mathlib.Core.Bool.{true, false}
+use mathlib.Core.Bool.{true}
 use Rattle.layout.specs.declared.Shape.{Shape}
-use Rattle.layout.specs.Field.{place, width, Name.LEN, Name.CTR}
+use Rattle.layout.specs.Field.{shape, place, width, Name.LEN, Name.CTR}
 use Rattle.layout.specs.Multiple.{Aligned}
-use Rattle.packet.specs.declared.At.{At}
 use Rattle.usb.specs.declared.Setting.{Setting}
-use Rattle.usb.specs.Setting.{fields, H, whole, sound}
-use Rattle.usb.specs.Reading.{stand}
-use Rattle.usb_plan.specs.declared.Plan.{Plan}
-use Rattle.usb_plan.specs.declared.Planned.{Planned}
-use Rattle.usb_plan.specs.declared.Planned.the-variants as P
+use Rattle.usb.specs.Setting.{fields, H, sound}
+use Rattle.plan.specs.declared.Plan.{Plan}
+use Rattle.plan.specs.declared.Planned.{Planned}
+use Rattle.plan.specs.Plan.{planned}
+use Rattle.plan.specs.Plan.{planOf as joined}
 
 -- the setting of a plan
 abbrev pub setting : Plan → Setting
 setting p =
     record {
       header = p .header;
-      packing = p .packing;
+      packing = p .layout;
       align = p .align;
       datapacket = p .datapacket;
       longest = p .longest;
@@ -26,20 +25,10 @@ setting p =
     }
 
 abbrev pub planOf : Setting → Shape → Plan
-planOf s k =
-    record {
-      header = s .header;
-      packing = s .packing;
-      align = s .align;
-      datapacket = s .datapacket;
-      longest = s .longest;
-      direction = s .direction;
-      size = k .size;
-      lenat = k .lenat;
-      lenwidth = k .lenwidth;
-      ctrat = k .ctrat;
-      ctrwidth = k .ctrwidth;
-    }
+planOf s k = joined (s .packing) (s .header) (s .align) (s .datapacket) (s .longest) (s .direction) 0 k
+
+abbrev pub plannedOf : Setting → Planned
+plannedOf s = planned (sound s) (planOf s (shape (fields s)))
 
 -- the bytes of LEN in a setting's header
 pub record LenOf (s : Setting) (w : ℕ) : Type 0 where
@@ -64,41 +53,14 @@ pub record Ready (p : Plan) : Type 0 where
   pub len-inside : p .lenat + p .lenwidth ≤ p .size
   pub ctr-narrow : p .ctrwidth ≤ 2
   pub ctr-inside : p .ctrat + p .ctrwidth ≤ p .size
-
-abbrev pub PlannedAs : Setting → Planned → Type 0
-PlannedAs s (P.Sound p) = (setting p ≡ s) × Ready p
-PlannedAs s P.Unsound = sound s ≡ false
-
----- A message's bytes ----------------------------------------------------------------------------------------------------------
-
-pub record Packet (p : Plan) (n : ℕ) : Type 0 where
-  pub ready : Ready p
-  pub small : n < 65536
-
-pub record Whole (p : Plan) (n r : ℕ) : Type 0 where
-  pub is : r ≡ whole (setting p) n
-  pub small : r ≤ n + 11
-
----- Places ---------------------------------------------------------------------------------------------------------------------
-
--- beyond every place that a reader or a writer comes to, and far below what a number of the machine can be
-abbrev pub far : ℕ
-far = 1000000000
-
--- a place, and the end of its data packet
-pub record Place (p : Plan) (a : At) : Type 0 where
-  pub end : a .end ≡ a .q + (p .datapacket - a .q % p .datapacket)
-  pub short : a .q < a .end
-  pub near : a .end ≤ a .q + p .datapacket
-
--- a later place, asked for and reached
-pub record Onward (p : Plan) (a : At) (next : ℕ) : Type 0 where
-  pub ready : Ready p
-  pub place : Place p a
-  pub on : a .q < next
-  pub small : next ≤ far
-
-pub record Moved (p : Plan) (next : ℕ) (a : At) : Type 0 where
-  pub is : a ≡ stand (setting p) next
-  pub there : a .q ≡ next
-  pub place : Place p a
+  -- LEN stands first, and CTR behind it
+  pub len-first : p .lenat ≡ 0
+  pub ctr-next : 0 < p .ctrwidth → p .ctrat ≡ p .lenwidth
+  -- which has as many bytes, or none: a CTR of one byte goes with a LEN of one; with both the header is full
+  pub len-least : 1 ≤ p .lenwidth
+  pub ctr-most : p .ctrwidth ≤ p .lenwidth
+  pub ctr-odd : p .ctrwidth % 2 + p .lenwidth ≤ 2
+  pub size-twice : p .size ≤ p .lenwidth + p .lenwidth
+  pub layout : p .layout < 3
+  pub eights : p .datapacket % 8 ≡ 0
+  pub way : p .direction < 2

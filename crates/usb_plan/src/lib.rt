@@ -1,38 +1,15 @@
-// A plan of a USB setting: whether it is sound, its numbers with those of its header, a message's bytes, and places.
+// A plan of a USB setting: whether it is sound, and its numbers with those of its header.
 ghost use mathlib.Core.Path.{_≡_};
 ghost use Prim.Native.Nat.{_≤_, _^_};
 ghost use Rattle.usb.specs.Setting.{aligned as alignedOf, sized as sizedOf, sayable as sayableOf, sound as soundOf};
-ghost use Rattle.usb_plan.specs.Plan.{planOf, LenOf, PlannedAs, Onward, Moved, Packet, Whole};
-use layout::Shape;
+ghost use Rattle.usb_plan.specs.Plan.{plannedOf, LenOf};
 use layout::all;
 use layout::both;
 use layout::either;
-use layout::pick;
-use layout::rounded;
-use packet::At;
+use plan::Planned;
+use plan::joined;
 use usb::Setting;
 use usb::shape;
-
-// A setting's numbers, with those of its header, so that they are worked out once.
-pub struct Plan {
-    pub header: u32,
-    pub packing: usize,
-    pub align: usize,
-    pub datapacket: usize,
-    pub longest: usize,
-    pub direction: u32,
-    pub size: usize,
-    pub lenat: usize,
-    pub lenwidth: usize,
-    pub ctrat: usize,
-    pub ctrwidth: usize,
-}
-
-// The plan of a setting that is sound.
-pub enum Planned {
-    Sound(Plan),
-    Unsound,
-}
 
 fn aligned(a: u32) -> bool
     ensures { λ r. ⌜ r ≡ alignedOf a ⌝ }
@@ -79,56 +56,22 @@ fn sound(s: Setting, lenwidth: usize) -> bool
     both(ok, s.direction < 2)
 }
 
-// A setting with the numbers of its header.
-fn joined(s: Setting, k: Shape) -> Plan
-    ensures { λ r. ⌜ r ≡ planOf s k ⌝ }
-{
-    Plan {
-        header: s.header,
-        packing: s.packing as usize,
-        align: s.align as usize,
-        datapacket: s.datapacket as usize,
-        longest: s.longest as usize,
-        direction: s.direction,
-        size: k.size,
-        lenat: k.lenat,
-        lenwidth: k.lenwidth,
-        ctrat: k.ctrat,
-        ctrwidth: k.ctrwidth,
-    }
-}
-
 // The plan of a setting, or that it is not sound. Nobody else works a header out.
 pub fn plan_for(s: Setting) -> Planned
-    ensures { λ r. ⌜ PlannedAs s r ⌝ }
+    ensures { λ r. ⌜ r ≡ plannedOf s ⌝ }
 {
     let k = shape(s.header);
     if sound(s, k.lenwidth) {
-        return Planned::Sound(joined(s, k));
+        return Planned::Sound(joined(
+            s.packing,
+            s.header,
+            s.align,
+            s.datapacket,
+            s.longest,
+            s.direction,
+            0,
+            k,
+        ));
     }
     Planned::Unsound
-}
-
-// The bytes of a message with a packet of n bytes.
-pub fn whole(p: Plan, n: usize) -> usize
-    requires { ⌜ Packet p n ⌝ }
-    ensures { λ r. ⌜ Whole p n r ⌝ }
-{
-    rounded(p.align, p.size + n)
-}
-
-// A later place. One end of a data packet between is passed without a branch, since none can foresee where the messages of a stream end;
-// a division only where there are more.
-pub fn on(p: Plan, a: At, next: usize) -> At
-    requires { ⌜ Onward p a next ⌝ }
-    ensures { λ r. ⌜ Moved p next r ⌝ }
-{
-    let end = pick(next < a.end, a.end, a.end + p.datapacket);
-    if next < end {
-        return At { q: next, end };
-    }
-    At {
-        q: next,
-        end: next + (p.datapacket - next % p.datapacket),
-    }
 }

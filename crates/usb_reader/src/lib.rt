@@ -1,22 +1,101 @@
 // The USB reader: it judges a transfer, checks the room, and gives the rows.
+ghost use mathlib.Core.Path.{_≡_};
+ghost use lib.ListN.{length};
 ghost use Rattle.packet.specs.Answer.{Gives};
 ghost use Rattle.lent.specs.Told.{Tells};
+ghost use Rattle.reading.specs.Reads.{reads};
+ghost use Rattle.rows.specs.Count.{JudgedAs};
+ghost use Rattle.rows.specs.Fill.{Filled.filled, filling};
 ghost use Rattle.usb.specs.Reading.{readOf};
 ghost use Rattle.usb_plan.specs.Plan.{setting, Ready};
-ghost use Rattle.usb_reader.specs.Reads.{answerTo, Giveable, Readable};
+ghost use Rattle.usb_reader.specs.Reads.{first, answerTo, Begun, Roomy, Giveable, Readable};
 use lent::Told;
+use packet::At;
 use packet::Counter;
 use packet::Reading;
+use plan::Plan;
+use plan::Planned;
+use reading::fill_loop;
+use reading::judge_loop;
 use rows::Judged;
 use rows::few;
 use rows::refuse;
 use rows::valid;
 use usb::Setting;
-use usb_plan::Plan;
-use usb_plan::Planned;
 use usb_plan::plan_for;
-use usb_rows::fill;
-use usb_rows::judge;
+
+// Judges a transfer. Each call says its case by literals, the layout and the bytes of LEN.
+fn judge(p: Plan, t: &[u8]) -> Judged
+    requires { ⌜ Begun p (now t) ⌝ }
+    ensures { λ r. ⌜ JudgedAs 0 (reads p (now (t .entry)) (first p)) (length (now (t .entry))) r ⌝ }
+{
+    let a = At {
+        q: 0,
+        end: p.datapacket,
+    };
+    if p.lenwidth < 2 {
+        if p.layout < 1 {
+            return judge_loop(0, 1, p.ctrwidth, p.size, p.align, p, t, a, 0);
+        }
+        if p.layout < 2 {
+            return judge_loop(1, 1, p.ctrwidth, p.size, p.align, p, t, a, 0);
+        }
+        return judge_loop(2, 1, p.ctrwidth, p.size, p.align, p, t, a, 0);
+    }
+    if p.layout < 1 {
+        return judge_loop(0, 2, p.ctrwidth, p.size, p.align, p, t, a, 0);
+    }
+    if p.layout < 2 {
+        return judge_loop(1, 2, p.ctrwidth, p.size, p.align, p, t, a, 0);
+    }
+    judge_loop(2, 2, p.ctrwidth, p.size, p.align, p, t, a, 0)
+}
+
+// Gives the k rows of a transfer. Each call says its case by literals, the layout and the bytes of LEN and of CTR.
+fn fill(p: Plan, t: &[u8], c: Counter, rows: &mut [u32], k: usize) -> Counter
+    requires { ⌜ Roomy p (now t) c k (length (now rows)) ⌝ }
+    ensures { λ r. ⌜ filled (now (rows .exit)) r
+        ≡ filling (p .direction) (p .ctrwidth) (now (rows .entry)) 0 c (reads p (now (t .entry)) (first p)) ⌝ }
+{
+    let a = At {
+        q: 0,
+        end: p.datapacket,
+    };
+    if p.lenwidth < 2 {
+        if p.ctrwidth < 1 {
+            if p.layout < 1 {
+                return fill_loop(0, 1, 0, p.size, p.align, p, t, a, c, rows, 0, k);
+            }
+            if p.layout < 2 {
+                return fill_loop(1, 1, 0, p.size, p.align, p, t, a, c, rows, 0, k);
+            }
+            return fill_loop(2, 1, 0, p.size, p.align, p, t, a, c, rows, 0, k);
+        }
+        if p.layout < 1 {
+            return fill_loop(0, 1, 1, 2, p.align, p, t, a, c, rows, 0, k);
+        }
+        if p.layout < 2 {
+            return fill_loop(1, 1, 1, 2, p.align, p, t, a, c, rows, 0, k);
+        }
+        return fill_loop(2, 1, 1, 2, p.align, p, t, a, c, rows, 0, k);
+    }
+    if p.ctrwidth < 1 {
+        if p.layout < 1 {
+            return fill_loop(0, 2, 0, p.size, p.align, p, t, a, c, rows, 0, k);
+        }
+        if p.layout < 2 {
+            return fill_loop(1, 2, 0, p.size, p.align, p, t, a, c, rows, 0, k);
+        }
+        return fill_loop(2, 2, 0, p.size, p.align, p, t, a, c, rows, 0, k);
+    }
+    if p.layout < 1 {
+        return fill_loop(0, 2, 2, 4, p.align, p, t, a, c, rows, 0, k);
+    }
+    if p.layout < 2 {
+        return fill_loop(1, 2, 2, 4, p.align, p, t, a, c, rows, 0, k);
+    }
+    fill_loop(2, 2, 2, 4, p.align, p, t, a, c, rows, 0, k)
+}
 
 // A transfer that was judged to have k rows: they are given if the table has room.
 fn give(p: Plan, t: &[u8], c: Counter, rows: &mut [u32], k: usize) -> Reading
@@ -26,7 +105,7 @@ fn give(p: Plan, t: &[u8], c: Counter, rows: &mut [u32], k: usize) -> Reading
     if few(rows.len(), k) {
         return refuse(rows, 4, 0);
     }
-    let state = fill(p, t, c, rows);
+    let state = fill(p, t, c, rows, k);
     let count = k as u32;
     Reading::Rows(count, state)
 }

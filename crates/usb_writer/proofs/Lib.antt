@@ -1,1 +1,4 @@
+pub mod ShapeLaws
+pub mod SkipLaws
+pub mod TransferLaws
 pub mod WritesLaws

@@ -1,74 +1,139 @@
 -- What is weighed, and what is written, is what is answered.
-use Prim.Native.Nat.{ℕ, _-_}
+use Prim.Native.Nat.{ℕ, _+_, _-_, _<_, _≤_}
 use native.Mathlib.Omega.{arith}
-use mathlib.Core.Path.{_≡_, refl, sym, _∙_}
-use mathlib.Core.Bool.{Bool, true, false, _||_}
-use mathlib.Core.List.{List, []}
-use lib.ListN.{length}
+use native.Mathlib.Nat.{zero-add}
+use mathlib.Core.Path.{_≡_, refl, sym, ap, _∙_}
+use mathlib.Core.Bool.{Bool, true, false, cond, _&&_, _||_}
+use mathlib.Core.List.{List, [], _++_}
+use lib.ListN.{length, length-append}
 use lib.Seq.{sets}
 use lib.Dec.{ltb}
-use Rattle.layout.proofs.TestLaws.{why-failed}
+use Rattle.layout.proofs.RunLaws.{sets-append}
+use Rattle.lengths.specs.Lengths.{misfitOf}
+use Rattle.lengths.proofs.LengthsLaws as M
 use Rattle.packet.specs.declared.At.{At}
 use Rattle.packet.specs.declared.Writing.the-variants as W
 use Rattle.packet.specs.Answer as A
 use Rattle.packet.specs.Answer.{Gives, writeRefused}
 use Rattle.packet.specs.Counter.{holds, later}
-use Rattle.packet.specs.Limit.{mostBytes}
-use Rattle.packet.specs.Packets as P
-use Rattle.packet.specs.Packets.{packets, mismatched, first}
+use Rattle.packet.specs.Limit.{mostLengths, mostBytes}
+use Rattle.packet.specs.Packets.{packets, mismatched}
+use Rattle.packet.specs.Packets.{first as firstOf, sum as sumOf}
 use Rattle.packet.proofs.AnswerLaws.{gives-so}
-use Rattle.packet.proofs.PacketsLaws.{mismatch-tells}
 use Rattle.packet.proofs.WeighLaws as L
 use Rattle.packet.proofs.WeighLaws.{Call, answerOf, has-room}
+use Rattle.plan.specs.declared.Plan.{Plan}
 use Rattle.usb.specs.declared.Setting.{Setting}
 use Rattle.usb.specs.Setting.{W, sound}
-use Rattle.usb.specs.Writing.{restBytes, write, misfit, composed, writeOf}
-use Rattle.usb_plan.specs.declared.Plan.{Plan}
+use Rattle.usb.specs.Writing as U
+use Rattle.usb.specs.Writing.{write, misfit, writeOf}
 use Rattle.usb_plan.specs.Plan.{setting, Ready}
-use Rattle.usb_size.specs.Size.{MisfitAt, Ended, topped}
-use Rattle.usb_size.proofs.TotalLaws.{write-none, total}
-use Rattle.usb_put.specs.Put.{Writable, Wrote}
-use Rattle.usb_writer.specs.Writes.{Matching, Fitted, Roomy, Composed}
+use Rattle.writing.specs.declared.Sized.{Sized}
+use Rattle.writing.specs.Bytes.{restBytes}
+use Rattle.writing.specs.Puts.{bytesFrom, Wrote}
+use Rattle.writing.specs.Sizes.{reach, first, SizedAs}
+use Rattle.writing.proofs.AllLaws.{bytes-length}
+use Rattle.writing.proofs.PutLaws.{rest-length}
+use Rattle.writing.proofs.ReachLaws.{Clear}
+use Rattle.usb_writer.specs.Writes.{Sizing, Putting, endOf, Ahead, Counted, Fitted, Roomy, composed, Composed}
+use Rattle.usb_writer.proofs.ShapeLaws.{shaped, formed, headed}
+use Rattle.usb_writer.proofs.SkipLaws.{Cut, first-cut}
+use Rattle.usb_writer.proofs.TransferLaws.{index-is, reach-cut, write-is, end-is}
 
--- lengths that match the bytes
-pub matched : {ns bs : List ℕ} → mismatched ns bs ≡ false → P.Matched ns bs
-matched {ns} {bs} e = why-failed (mismatch-tells ns bs) e
+pub counted : {p : Plan} → Ready p → {ns : List ℕ} {c : ℕ} → holds (p .ctrwidth) c ≡ true → length ns ≤ mostLengths → Counted p ns c
+counted k h l = record { ready = k; held = h; few = l }
 
-pub matching : {p : Plan} → Ready p → {bs ns : List ℕ} {c : ℕ} → holds (p .ctrwidth) c ≡ true → mismatched ns bs ≡ false → Matching p bs ns c
-matching k h e = record { ready = k; held = h; matched = e; few = matched e .few }
+module _ {p : Plan} {ns : List ℕ} {c : ℕ} (k : Counted p ns c) where
+  pub sizing : Sizing p ns
+  sizing = record { formed = formed (k .ready); shaped = shaped (k .ready); few = k .few }
+
+  pub fitted : {z : Sized} {bs : List ℕ} → SizedAs p 0 ns z → length ns ≤ z .taken → z .sum ≡ length bs → Fitted p bs ns c (z .behind)
+  fitted {z} s l e =
+      let t : z .taken ≡ length ns = omega (arith, s .few) in
+      let w = s .all t in
+      record { counted = k; same = sym (w .sum) ∙ e; fit = sym (s .taken) ∙ t; behind = w .behind }
 
 ---- Composing ------------------------------------------------------------------------------------------------------------------
 
-pub writable : {p : Plan} {bs ns : List ℕ} {c : ℕ} {a : At} {end n : ℕ} → Roomy p bs ns c a end n → Writable p bs ns c n
-writable h =
-    let f = h .fitted in
-    record {
-      ready = f .matching .ready;
-      held = f .matching .held;
-      sum = matched (f .matching .matched) .same;
-      fit = f .sized .fit;
-      room = omega (arith, f .sized .reach, h .past, h .room);
-      most = omega (arith, f .sized .reach, h .past, h .most);
-    }
+module _ {p : Plan} {bs ns : List ℕ} {c : ℕ} {a : At} (f : Fitted p bs ns c a) where
+  k : Ready p
+  k = f .counted .ready
 
--- behind the messages the last data packet is filled up to the end
-pub composed-is : {p : Plan} {bs ns : List ℕ} {c : ℕ} {a : At} {end n : ℕ} → Roomy p bs ns c a end n → (fill : ℕ)
-    → {old one new : List ℕ} {r : ℕ} → Wrote p bs ns c fill old one r → new ≡ sets one (a .q) (restBytes (setting p) fill (end - a .q))
-    → Composed p bs ns c fill a end old new r
-composed-is {p} {bs} {ns} {c} {a} {end} h fill {old} {one} {new} {r} w x =
-    let s = setting p in
-    let k = h .fitted .sized .reach in
-    let ok = h .fitted .matching .ready .ok in
-    let rest : (full : Bool) → Ended p a full end
-    → sets one (a .q) (restBytes s fill (end - a .q)) ≡ sets one (a .q) (write s fill full (a .q) r []) =
-    λ full e. let t : end - a .q ≡ topped s full (a .q) = omega (arith, e .is) in rw (t, write-none s ok fill full (a .q) r) in
-    record { bytes = λ full e. x ∙ rest full e ∙ sym (w .bytes full ∙ rw (← k)); counter = w .counter }
+  clear : Clear p (first 0) ns
+  clear = record { none = f .fit }
 
-pub roomy : {p : Plan} {bs ns : List ℕ} {c : ℕ} {a : At} {end : ℕ} {full : Bool} → Fitted p bs ns c a → Ended p a full end → {n : ℕ}
-    → ltb n end || ltb mostBytes end ≡ false → Roomy p bs ns c a end n
-roomy {end = end} f e {n} h =
-    let (room, most) = has-room n end h in
-    record { fitted = f; past = omega (arith, e .is); room = room; most = most }
+  cut : Cut p a
+  cut = rw (f .behind) (reach-cut k (first-cut k) ns clear)
+
+  pub ahead : Ahead a
+  ahead = record { ahead = cut .ahead }
+
+  past : (full : Bool) → a .q ≤ endOf p a full
+  past full = at (full && ltb (a .end - a .q) (p .datapacket))
+    where
+      at : (b : Bool) → a .q ≤ cond b (a .end) (a .q)
+      at true = cut .ahead
+      at false = omega arith
+
+  -- the messages end at the place
+  messages-long : (fill : ℕ) → length (bytesFrom p fill (first 0) c (packets ns bs)) ≡ a .q
+  messages-long fill =
+      let e : a .q ≡ reach p (first 0) ns .q = ap (λ x. x .q) (f .behind) in
+      omega (arith, bytes-length (formed k) (headed k) fill {a = first 0} (λ _. omega arith) c ns bs (f .same) clear)
+
+  module _ (fill : ℕ) (full : Bool) where
+    -- the transfer, as it is composed
+    whole : write (setting p) fill full 0 c (packets ns bs) ≡ composed p fill c a (endOf p a full) (packets ns bs)
+    whole =
+        let b = f .behind in
+        let i = end-is k fill full cut in
+        let e : write (setting p) fill full (reach p (first 0) ns .q) 0 [] ≡ write (setting p) fill full (a .q) 0 [] = rw (← b) in
+        write-is k fill full (first-cut k) c ns bs (f .same) clear ∙ rw (e, i)
+
+    -- it is as long as it was sized
+    long : {end : ℕ} → end ≡ endOf p a full → length (write (setting p) fill full 0 c (packets ns bs)) ≡ end
+    long {end} e =
+        let m : List ℕ = bytesFrom p fill (first 0) c (packets ns bs) in
+        let l : p .lenwidth ≤ p .size = omega (arith, shaped k .inside) in
+        let r = rest-length (p .layout) l fill (endOf p a full - a .q) in
+        let o = length-append m (restBytes (p .layout) (p .lenwidth) (p .size) fill (endOf p a full - a .q)) in
+        ap length whole ∙ omega (arith, messages-long fill, past full)
+
+  pub roomy : (full : Bool) {end : ℕ} → end ≡ endOf p a full → {n : ℕ} → ltb n end || ltb mostBytes end ≡ false → Roomy p bs ns c a end n
+  roomy full {end} e {n} h =
+      let (room, most) = has-room n end h in
+      record { fitted = f; past = omega (arith, past full); room = room; most = most }
+
+module _ {p : Plan} {bs ns : List ℕ} {c : ℕ} {a : At} {end n : ℕ} (h : Roomy p bs ns c a end n) where
+  pub putting : (fill : ℕ) → Putting (p .layout) p (record { q = 0; ctr = c; free = fill }) bs ns n
+  putting fill =
+      let f = h .fitted in
+      let e : a .q ≡ reach p (first 0) ns .q = ap (λ x. x .q) (f .behind) in
+      record {
+        layout = refl;
+        shaped = shaped (f .counted .ready);
+        writable =
+            record {
+              formed = formed (f .counted .ready);
+              header = headed (f .counted .ready);
+              held = f .counted .held;
+              few = f .counted .few;
+              sum = f .same;
+              fit = f .fit;
+              room = omega (arith, h .past, h .room);
+              most = omega (arith, h .past, h .most);
+              start = λ _. refl;
+              near = omega arith;
+            };
+      }
+
+  pub composed-is : (fill : ℕ) {old one new : List ℕ} {r : ℕ} → Wrote p (record { q = 0; ctr = c; free = fill }) bs ns old one r
+      → new ≡ sets one (a .q) (restBytes (p .layout) (p .lenwidth) (p .size) fill (end - a .q)) → Composed p bs ns c fill a end old new r
+  composed-is fill {old} {one} {new} w x =
+      let m : List ℕ = bytesFrom p fill (first 0) c (packets ns bs) in
+      let r : List ℕ = restBytes (p .layout) (p .lenwidth) (p .size) fill (end - a .q) in
+      let e : 0 + length m ≡ a .q = omega (arith, messages-long (h .fitted) fill) in
+      record { bytes = x ∙ rw (w .bytes) (sym (sets-append m r old 0 ∙ rw e)); counter = w .counter }
 
 ---- The answer -----------------------------------------------------------------------------------------------------------------
 
@@ -80,14 +145,14 @@ module _ (bs ns : List ℕ) (c fill : ℕ) (full : Bool) (out : List ℕ) where
         sound = sound s;
         held = holds (W s) c;
         mismatch = mismatched ns bs;
-        index = first (misfit s) ns;
+        index = firstOf (misfit s) ns;
         count = length ns;
         bytes = write s fill full 0 c (packets ns bs);
         next = later (W s) (length ns) c;
       }
 
   weighed-so : (s : Setting) → writeOf s bs ns c fill full out ≡ answerOf (call s) out
-  unfolding writeOf composed
+  unfolding writeOf U.composed
   weighed-so s = refl
 
   -- the plan's setting is the one that was given
@@ -107,28 +172,28 @@ module _ (bs ns : List ℕ) (c fill : ℕ) (full : Bool) (out : List ℕ) where
     pub unmatched : holds (p .ctrwidth) c ≡ true → mismatched ns bs ≡ true → writeOf (setting p) bs ns c fill full out ≡ writeRefused out 2 0
     unmatched h e = weighed-so (setting p) ∙ L.unmatched (call (setting p)) out (willing h) e
 
-  pub unfit : {p : Plan} {i : ℕ} → Matching p bs ns c → MisfitAt p ns i → writeOf (setting p) bs ns c fill full out ≡ writeRefused out 3 i
-  unfit {p} m f =
-      weighed-so (setting p) ∙ L.unfit (call (setting p)) out (willing (m .ready) (m .held)) (m .matched) (f .is) (f .inside)
+  pub unfit : {p : Plan} → Counted p ns c → {z : Sized} → SizedAs p 0 ns z → z .taken < length ns
+      → writeOf (setting p) bs ns c fill full out ≡ misfitOf ns bs out (z .taken)
+  unfit {p} k s l =
+      weighed-so (setting p)
+      ∙ M.unfit (call (setting p)) out ns bs (willing (k .ready) (k .held)) refl (index-is (k .ready) (first 0) ns ∙ sym (s .taken)) l
 
-  -- the transfer is as long as it was sized
-  module _ {p : Plan} {a : At} {end : ℕ} (f : Fitted p bs ns c a) (e : Ended p a full end) where
-    m : Matching p bs ns c
-    m = f .matching
+  module _ {p : Plan} {a : At} {end : ℕ} (f : Fitted p bs ns c a) (e : end ≡ endOf p a full) where
+    index : firstOf (misfit (setting p)) ns ≡ length ns
+    index = index-is (f .counted .ready) (first 0) ns ∙ f .fit
 
-    long : length (write (setting p) fill full 0 c (packets ns bs)) ≡ end
-    long =
-        let k = f .sized .reach in
-        total (setting p) (m .ready .ok) fill full c ns bs (matched (m .matched) .same) ∙ rw (← k) (sym (e .is))
+    matched : mismatched ns bs ≡ false
+    matched = M.same ns bs (f .counted .few) (f .same)
+
+    ready : A.Ready (sound (setting p)) (holds (W (setting p)) c)
+    ready = willing (f .counted .ready) (f .counted .held)
 
     pub crowded : ltb (length out) end || ltb mostBytes end ≡ true → writeOf (setting p) bs ns c fill full out ≡ writeRefused out 4 0
-    crowded h =
-        weighed-so (setting p)
-        ∙ L.crowded (call (setting p)) out (willing (m .ready) (m .held)) (m .matched) (f .sized .fit) long h
+    crowded h = weighed-so (setting p) ∙ L.crowded (call (setting p)) out ready matched index (long f fill full e) h
 
     pub written : {new : List ℕ} {r : ℕ} → Roomy p bs ns c a end (length out) → Composed p bs ns c fill a end out new r
         → Gives (writeOf (setting p) bs ns c fill full out) (W.Bytes end r) new
     written h x =
         gives-so (weighed-so (setting p))
-        (L.written (call (setting p)) out (willing (m .ready) (m .held)) (m .matched) (f .sized .fit) long (h .room) (h .most) (x .bytes full e)
-        (x .counter ∙ rw (m .ready .ctrwidth)))
+        (L.written (call (setting p)) out ready matched index (long f fill full e) (h .room) (h .most) (x .bytes ∙ sym (rw (whole f fill full, ← e)))
+        (x .counter ∙ rw (f .counted .ready .ctrwidth)))

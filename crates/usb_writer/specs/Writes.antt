@@ -1,30 +1,62 @@
 -- What the functions above the loops ask and tell.
-use Prim.Native.Nat.{ℕ, _≤_}
+use Prim.Native.Nat.{ℕ, _+_, _*_, _-_, _<_, _≤_}
 use mathlib.Core.Path.{_≡_}
-use mathlib.Core.Bool.{Bool, true, false}
-use mathlib.Core.List.{List}
+use mathlib.Core.Bool.{Bool, true, cond, _&&_}
+use mathlib.Core.List.{List, _++_}
 use lib.ListN.{length}
 use lib.Seq.{sets}
+use lib.Dec.{ltb}
 use Rattle.packet.specs.declared.At.{At}
 use Rattle.packet.specs.Counter.{holds, later}
 use Rattle.packet.specs.Limit.{mostLengths, mostBytes}
-use Rattle.packet.specs.Packets.{packets, mismatched}
-use Rattle.usb.specs.Writing.{write}
-use Rattle.usb_plan.specs.declared.Plan.{Plan}
-use Rattle.usb_plan.specs.Plan.{setting, Ready}
-use Rattle.usb_size.specs.Size.{FitsTo, Ended}
+use Rattle.packet.specs.Packets.{sum, packets}
+use Rattle.plan.specs.declared.Plan.{Plan}
+use Rattle.usb_plan.specs.Plan.{Ready}
+use Rattle.writing.specs.declared.Begin.{Begin}
+use Rattle.writing.specs.Bytes.{restBytes}
+use Rattle.writing.specs.Puts.{bytesFrom, Writable}
+use Rattle.writing.specs.Sizes.{Formed, misfitAt, reach, first}
 
--- the setting, the counter and the lengths are right
-pub record Matching (p : Plan) (bs ns : List ℕ) (c : ℕ) : Type 0 where
-  pub ready : Ready p
-  pub held : holds (p .ctrwidth) c ≡ true
-  pub matched : mismatched ns bs ≡ false
+-- a plan in numbers: CTR, where there is one, is as wide as LEN, and a header without it is at most twice as wide
+pub record Shaped (p : Plan) : Type 0 where
+  pub layout : p .layout < 3
+  pub len-least : 1 ≤ p .lenwidth
+  pub len-most : p .lenwidth ≤ 2
+  pub ctr-most : p .ctrwidth ≤ p .lenwidth
+  pub alike : p .lenwidth + p .ctrwidth ≡ 3 → ⊥
+  pub inside : p .lenwidth + p .ctrwidth ≤ p .size
+  pub filled : p .size ≤ 2 * p .lenwidth
+
+pub record Sizing (p : Plan) (ns : List ℕ) : Type 0 where
+  pub formed : Formed p
+  pub shaped : Shaped p
   pub few : length ns ≤ mostLengths
 
--- .. and all lengths fit: their messages end at a place
+-- packets to be put in a layout
+pub record Putting (l : ℕ) (p : Plan) (b : Begin) (bs ns : List ℕ) (n : ℕ) : Type 0 where
+  pub layout : l ≡ p .layout
+  pub shaped : Shaped p
+  pub writable : Writable p b bs ns n
+
+-- where a transfer ends whose messages end at a place: there, or filled up, where its data packet does
+abbrev pub endOf : Plan → At → Bool → ℕ
+endOf p a full = cond (full && ltb (a .end - a .q) (p .datapacket)) (a .end) (a .q)
+
+pub record Ahead (a : At) : Type 0 where
+  pub ahead : a .q ≤ a .end
+
+-- the setting and the counter are right, and there are not too many lengths
+pub record Counted (p : Plan) (ns : List ℕ) (c : ℕ) : Type 0 where
+  pub ready : Ready p
+  pub held : holds (p .ctrwidth) c ≡ true
+  pub few : length ns ≤ mostLengths
+
+-- .. their sum is that of the bytes, and all fit: their messages end at a place
 pub record Fitted (p : Plan) (bs ns : List ℕ) (c : ℕ) (a : At) : Type 0 where
-  pub matching : Matching p bs ns c
-  pub sized : FitsTo p ns a
+  pub counted : Counted p ns c
+  pub same : sum ns ≡ length bs
+  pub fit : misfitAt p (first 0) ns ≡ length ns
+  pub behind : a ≡ reach p (first 0) ns
 
 -- .. and n bytes have room for the transfer, which ends there
 pub record Roomy (p : Plan) (bs ns : List ℕ) (c : ℕ) (a : At) (end n : ℕ) : Type 0 where
@@ -33,7 +65,11 @@ pub record Roomy (p : Plan) (bs ns : List ℕ) (c : ℕ) (a : At) (end n : ℕ) 
   pub room : end ≤ n
   pub most : end ≤ mostBytes
 
--- it is written, for whatever filling up comes to that end
+-- the messages, and a rest behind them up to the end
+abbrev pub composed : Plan → (fill c : ℕ) → At → (end : ℕ) → List (List ℕ) → List ℕ
+composed p fill c a end bs =
+    bytesFrom p fill (first 0) c bs ++ restBytes (p .layout) (p .lenwidth) (p .size) fill (end - a .q)
+
 pub record Composed (p : Plan) (bs ns : List ℕ) (c fill : ℕ) (a : At) (end : ℕ) (old new : List ℕ) (r : ℕ) : Type 0 where
-  pub bytes : (full : Bool) → Ended p a full end → new ≡ sets old 0 (write (setting p) fill full 0 c (packets ns bs))
+  pub bytes : new ≡ sets old 0 (composed p fill c a end (packets ns bs))
   pub counter : r ≡ later (p .ctrwidth) (length ns) c

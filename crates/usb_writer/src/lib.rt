@@ -1,24 +1,114 @@
 // The USB writer: it sizes a transfer, checks its inputs and the room, and writes it.
+ghost use mathlib.Core.Path.{_≡_};
 ghost use lib.ListN.{length};
 ghost use Rattle.packet.specs.Answer.{Gives};
 ghost use Rattle.usb.specs.Writing.{writeOf};
 ghost use Rattle.usb_plan.specs.Plan.{setting, Ready};
-ghost use Rattle.usb_writer.specs.Writes.{Matching, Fitted, Roomy, Composed};
+ghost use Rattle.writing.specs.Puts.{Wrote};
+ghost use Rattle.writing.specs.Sizes.{SizedAs};
+ghost use Rattle.usb_writer.specs.Writes.{Sizing, Putting, endOf, Ahead, Counted, Fitted, Roomy, Composed};
+use layout::both;
+use layout::pick;
 use lengths::crowded;
-use lengths::mismatched;
 use lengths::refuse;
+use lengths::refuse_misfit;
 use packet::At;
 use packet::Writing;
+use plan::Plan;
+use plan::Planned;
 use rows::holds;
 use usb::Setting;
-use usb_plan::Plan;
-use usb_plan::Planned;
 use usb_plan::plan_for;
-use usb_put::put_all;
-use usb_put::put_rest;
-use usb_size::Sized;
-use usb_size::ended;
-use usb_size::size;
+use writing::Begin;
+use writing::Sized;
+use writing::put_loop;
+use writing::put_rest;
+use writing::size_loop;
+
+fn size(p: Plan, lengths: &[u32]) -> Sized
+    requires { ⌜ Sizing p (now lengths) ⌝ }
+    ensures { λ r. ⌜ SizedAs p 0 (now (lengths .entry)) r ⌝ }
+{
+    if p.layout == 0 {
+        return size_loop(0, p.size, p.align, p, 0, lengths);
+    }
+    if p.layout == 1 {
+        return size_loop(1, p.size, p.align, p, 0, lengths);
+    }
+    size_loop(2, p.size, p.align, p, 0, lengths)
+}
+
+// Writes messages in single packing. LEN and CTR are said by literals here; a header without CTR may have free bytes.
+fn put_single(p: Plan, b: Begin, packets: &[u8], lengths: &[u32], out: &mut [u8]) -> u32
+    requires { ⌜ Putting 0 p b (now packets) (now lengths) (length (now out)) ⌝ }
+    ensures { λ r. ⌜ Wrote p b (now (packets .entry)) (now (lengths .entry)) (now (out .entry)) (now (out .exit)) r ⌝ }
+{
+    if p.ctrwidth == 1 {
+        return put_loop(0, 1, 1, 2, p.align, p, b, packets, lengths, out);
+    }
+    if p.ctrwidth == 2 {
+        return put_loop(0, 2, 2, 4, p.align, p, b, packets, lengths, out);
+    }
+    if p.lenwidth == 1 {
+        return put_loop(0, 1, 0, p.size, p.align, p, b, packets, lengths, out);
+    }
+    put_loop(0, 2, 0, p.size, p.align, p, b, packets, lengths, out)
+}
+
+// The same in multiple packing.
+fn put_multiple(p: Plan, b: Begin, packets: &[u8], lengths: &[u32], out: &mut [u8]) -> u32
+    requires { ⌜ Putting 1 p b (now packets) (now lengths) (length (now out)) ⌝ }
+    ensures { λ r. ⌜ Wrote p b (now (packets .entry)) (now (lengths .entry)) (now (out .entry)) (now (out .exit)) r ⌝ }
+{
+    if p.ctrwidth == 1 {
+        return put_loop(1, 1, 1, 2, p.align, p, b, packets, lengths, out);
+    }
+    if p.ctrwidth == 2 {
+        return put_loop(1, 2, 2, 4, p.align, p, b, packets, lengths, out);
+    }
+    if p.lenwidth == 1 {
+        return put_loop(1, 1, 0, p.size, p.align, p, b, packets, lengths, out);
+    }
+    put_loop(1, 2, 0, p.size, p.align, p, b, packets, lengths, out)
+}
+
+// The same in streaming packing.
+fn put_streaming(p: Plan, b: Begin, packets: &[u8], lengths: &[u32], out: &mut [u8]) -> u32
+    requires { ⌜ Putting 2 p b (now packets) (now lengths) (length (now out)) ⌝ }
+    ensures { λ r. ⌜ Wrote p b (now (packets .entry)) (now (lengths .entry)) (now (out .entry)) (now (out .exit)) r ⌝ }
+{
+    if p.ctrwidth == 1 {
+        return put_loop(2, 1, 1, 2, p.align, p, b, packets, lengths, out);
+    }
+    if p.ctrwidth == 2 {
+        return put_loop(2, 2, 2, 4, p.align, p, b, packets, lengths, out);
+    }
+    if p.lenwidth == 1 {
+        return put_loop(2, 1, 0, p.size, p.align, p, b, packets, lengths, out);
+    }
+    put_loop(2, 2, 0, p.size, p.align, p, b, packets, lengths, out)
+}
+
+fn put(p: Plan, b: Begin, packets: &[u8], lengths: &[u32], out: &mut [u8]) -> u32
+    requires { ⌜ Putting (p .layout) p b (now packets) (now lengths) (length (now out)) ⌝ }
+    ensures { λ r. ⌜ Wrote p b (now (packets .entry)) (now (lengths .entry)) (now (out .entry)) (now (out .exit)) r ⌝ }
+{
+    if p.layout == 0 {
+        return put_single(p, b, packets, lengths, out);
+    }
+    if p.layout == 1 {
+        return put_multiple(p, b, packets, lengths, out);
+    }
+    put_streaming(p, b, packets, lengths, out)
+}
+
+// Where a transfer ends whose messages end at a place: there, or filled up, where its data packet does.
+fn ended(p: Plan, a: At, full: bool) -> usize
+    requires { ⌜ Ahead a ⌝ }
+    ensures { λ r. ⌜ r ≡ endOf p a full ⌝ }
+{
+    pick(both(full, a.end - a.q < p.datapacket), a.end, a.q)
+}
 
 // Writes messages that end at a place, and fills up from there to the end. Gives the next counter.
 fn compose(
@@ -34,14 +124,19 @@ fn compose(
     requires { ⌜ Roomy p (now packets) (now lengths) first a end (length (now out)) ⌝ }
     ensures { λ r. ⌜ Composed p (now (packets .entry)) (now (lengths .entry)) first fill a end (now (out .entry)) (now (out .exit)) r ⌝ }
 {
-    let next = put_all(p, packets, lengths, first, fill, out);
+    let b = Begin {
+        q: 0,
+        ctr: first,
+        free: fill,
+    };
+    let next = put(p, b, packets, lengths, out);
     let at = a.q;
-    put_rest(p, out, at, end - at, fill);
+    put_rest(p.layout, p.lenwidth, p.size, out, at, end - at, fill);
     next
 }
 
 // Lengths that fit: their messages end at a place.
-fn write_sized(
+fn write_fitted(
     p: Plan,
     packets: &[u8],
     lengths: &[u32],
@@ -64,8 +159,8 @@ fn write_sized(
     Writing::Bytes(count, next)
 }
 
-// Lengths that match the bytes are sized before a byte is written.
-fn write_matched(
+// The lengths are sized before a byte is written. Their sum comes with their sizes, unless one does not fit.
+fn write_sized(
     p: Plan,
     packets: &[u8],
     lengths: &[u32],
@@ -74,14 +169,18 @@ fn write_matched(
     full: bool,
     out: &mut [u8],
 ) -> Writing
-    requires { ⌜ Matching p (now packets) (now lengths) first ⌝ }
+    requires { ⌜ Counted p (now lengths) first ⌝ }
     ensures { λ r. ⌜ Gives (writeOf (setting p) (now (packets .entry)) (now (lengths .entry)) first fill full (now (out .entry)))
         r (now (out .exit)) ⌝ }
 {
-    match size(p, lengths) {
-        Sized::Fits(a) => write_sized(p, packets, lengths, first, fill, full, a, out),
-        Sized::Misfit(i) => refuse(out, 3, i),
+    let z = size(p, lengths);
+    if z.taken < lengths.len() {
+        return refuse_misfit(out, lengths, packets, z.taken);
     }
+    if z.sum != packets.len() {
+        return refuse(out, 2, 0);
+    }
+    write_fitted(p, packets, lengths, first, fill, full, z.behind, out)
 }
 
 // With a setting that is sound: the counter, then the lengths.
@@ -99,10 +198,10 @@ fn write_sound(
         r (now (out .exit)) ⌝ }
 {
     if holds(p.ctrwidth, first) {
-        if mismatched(lengths, packets) {
+        if 4096 < lengths.len() {
             return refuse(out, 2, 0);
         }
-        return write_matched(p, packets, lengths, first, fill, full, out);
+        return write_sized(p, packets, lengths, first, fill, full, out);
     }
     refuse(out, 1, 0)
 }

@@ -1,16 +1,15 @@
 use mathlib.Core.Path.{sym, _∙_}
 use borrow.Author.Needs.{needs}
-use Rattle.flexray_plan.proofs.PlanLaws.{plan-ready}
 use Rattle.flexray_plan.proofs.plan_for.Statement.{statement}
 use Rattle.flexray_plan.proofs.plan_for.Tie as tie
 
 sound : tie.Need-returns
 sound c =
     let t = c .before .before .before in
-    plan-ready (c .joined .ensures) (t .before .listed .ensures) (sym (t .sound .ensures) ∙ c .before .before .if1 .taken)
+    rw (sym (t .sound .ensures) ∙ c .before .before .if1 .taken, c .joined .ensures, t .before .listed .ensures)
 
 unsound : tie.Need-returns-2
-unsound c = sym (c .before .sound .ensures) ∙ c .if1 .left
+unsound c = rw (sym (c .before .sound .ensures) ∙ c .if1 .left)
 
 pub plan-for-spec : {M : Type 1} → statement M
 plan-for-spec = tie.close (tie.spec (λ c κs. search needs) (λ c κs. search needs) (λ c κs. search needs) sound unsound)

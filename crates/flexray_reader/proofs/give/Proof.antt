@@ -19,7 +19,7 @@ fits c κs =
     let f = c .before .before in
     let g = f .before .before .before .pre in
     let l = ltb-false _ _ (sym (f .few .ensures) ∙ c .before .if1 .left) in
-    fillable g _ l
+    fillable g l
 
 given : tie.Need-returns-2
 given c =

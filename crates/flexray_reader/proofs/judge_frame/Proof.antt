@@ -22,7 +22,7 @@ own c =
     let d = f .before in
     let b = d .before .before in
     let a = b .before .before in
-    laws.own (a .before .before .pre) _ (a .if1 .left) (b .if2 .left) (d .if3 .left) (f .field .ensures) (c .before .if4 .taken) (c .judge .ensures)
+    laws.own (a .before .before .pre) _ (a .if1 .left) (b .if2 .left) (d .if3 .left) (f .field .ensures) (c .before .if4 .taken) (c .judge-packets .ensures)
 
 other : tie.Need-returns-5
 other c =

@@ -1,44 +1,51 @@
--- The room decides. In each answer b is the place behind `crowded`, t that behind its test.
-use mathlib.Core.Path.{sym, _∙_}
-use lib.ListN.{length}
+-- The sizes decide. In each answer z is the place behind `size`, t a test, s the start.
+use native.Mathlib.Omega.{arith}
+use mathlib.Core.Path.{sym, ap, _∙_}
 use borrow.Author.Needs.{needs}
 use Rattle.packet.proofs.AnswerLaws.{gives-so}
-use Rattle.flexray_writer.proofs.WritesLaws.{roomy, crowded, said, written}
+use Rattle.lengths.proofs.LengthsLaws.{differs}
+use Rattle.flexray_writer.proofs.WritesLaws.{sizing, fitted, unfit, unmatched}
 use Rattle.flexray_writer.proofs.write_sized.Statement.{statement}
 use Rattle.flexray_writer.proofs.write_sized.Tie as tie
 
-refused : tie.Need-returns
-refused c =
+sizes : tie.Need-size-requires
+sizes c κs = let f = c .before in sizing (f .before .before .before .before .pre) (f .further .ensures)
+
+misfit : tie.Need-returns
+misfit c =
     let r = c .before .before in
     let t = r .before .before in
-    let b = t .before in
-    let s = b .before .before .before .before in
-    gives-so (crowded _ _ _ (s .args .fill) _ (s .pre) (sym (b .crowded .ensures) ∙ t .if1 .taken)) (r .refuse .ensures)
+    let z = t .before .before in
+    let f = z .before .before in
+    let s = f .before .before .before .before in
+    gives-so (unfit _ _ _ (s .args .fill) _ (s .pre) (rw (f .further .ensures) at (z .size .ensures)) (t .if1 .taken)) (r .refuse-misfit .ensures)
 
-room : tie.Need-compose-requires
-room c κs =
+unlike : tie.Need-returns-2
+unlike c =
+    let r = c .before .before in
+    let t = r .before .before in
+    let u = t .before .before in
+    let z = u .before .before in
+    let f = z .before .before in
+    let s = f .before .before .before .before in
+    let m = rw (f .further .ensures) at (z .size .ensures) in
+    let w = m .all (omega (arith, m .few, u .if1 .left)) in
+    gives-so
+    (unmatched _ _ _ (s .args .fill) _ (s .pre .ready) (s .pre .held)
+    (rw (differs (s .args .lengths .now) (s .args .packets .now) (λ e. t .if2 .taken (w .sum ∙ e))))) (r .refuse .ensures)
+
+fits : tie.Need-write-fitted-requires
+fits c κs =
     let t = c .before in
-    let b = t .before in
-    let s = b .before .before .before .before in
-    roomy (s .pre) {n = length (s .args .out .now)} (sym (b .crowded .ensures) ∙ t .if1 .left)
-
-says : tie.Need-after-requires
-says c κs =
-    let b = c .before .before .before .before .before in
-    said (b .before .before .before .before .pre .matching)
-
-wrote : tie.Need-returns-2
-wrote c =
-    let w = c .before .before .before in
-    let t = w .before .before in
-    let b = t .before in
-    let s = b .before .before .before .before in
-    let a = s .args in
-    let h = roomy (s .pre) {n = length (a .out .now)} (sym (b .crowded .ensures) ∙ t .if1 .left) in
-    written (a .packets .now) (a .lengths .now) (a .first) (a .fill) (a .out .now) (s .pre) h (w .compose .ensures) (c .after .ensures)
+    let u = t .before .before in
+    let z = u .before .before in
+    let f = z .before .before in
+    let s = f .before .before .before .before in
+    fitted (s .pre) (rw (f .further .ensures) at (z .size .ensures)) (omega (arith, u .if1 .left)) (t .if2 .left)
 
 pub write-sized-spec : {M : Type 1} → statement M
 write-sized-spec =
     tie.close
-    (tie.spec (λ c. search needs) (λ c κs. search needs) (λ c κs. search needs) (λ c. search needs) refused room says (λ c. search needs)
-    (λ c. search needs) wrote)
+    (tie.spec (λ c κs. search needs) (λ c. search needs) sizes (λ c κs. search needs) (λ c. search needs) misfit (λ c κs. search needs)
+    (λ c. search needs) unlike fits (λ c. search needs)
+    (λ c. search needs))

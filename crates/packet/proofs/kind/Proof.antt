@@ -8,13 +8,13 @@ empty c = simp (eq-eqb _ _ (c .if1 .taken))
 
 slave : tie.Need-returns-2
 slave c =
-    let m = c .before .before in
-    simp (ne-eqb _ _ (m .before .if1 .left), m .match .keys1) (c .kind-from-slave .ensures)
+    let m = c .before in
+    simp (ne-eqb _ _ (m .before .if1 .left), m .match .keys1) (c .kind-of .ensures)
 
 master : tie.Need-returns-3
 master c =
-    let m = c .before .before in
-    simp (ne-eqb _ _ (m .before .if1 .left), m .match .keys2) (c .kind-from-master .ensures)
+    let m = c .before in
+    simp (ne-eqb _ _ (m .before .if1 .left), m .match .keys2) (c .kind-of2 .ensures)
 
 none : tie.Need-returns-4
 none c =
@@ -24,4 +24,4 @@ none c =
 pub kind-spec : {M : Type 1} → statement M
 kind-spec =
     tie.close
-    (tie.spec empty (λ c. search needs) (λ c κs. search needs) (λ c. search needs) (λ c κs. search needs) slave master none)
+    (tie.spec empty (λ c κs. search needs) (λ c κs. search needs) slave master none)

@@ -3,9 +3,8 @@ use borrow.Author.Needs.{needs}
 use native.Mathlib.Omega.{arith}
 use Prim.Native.Nat.{_+_, _-_, _≤_}
 use lib.ListN.{length}
-use Rattle.blocks.proofs.BlockLaws.{four-is}
 use Rattle.runs.specs.Runs.{other, Run}
-use Rattle.runs.proofs.RunLaws.{run-first, run-on}
+use Rattle.runs.proofs.RunLaws.{four-is, run-first, run-on}
 use Rattle.runs.proofs.along.Statement.{statement}
 use Rattle.runs.proofs.along.Tie as tie
 

@@ -3,8 +3,7 @@ use borrow.Author.Needs.{needs}
 use native.Mathlib.Omega.{arith}
 use Prim.Native.Nat.{_+_, _≤_}
 use lib.ListN.{length}
-use Rattle.blocks.proofs.BlockLaws.{four-is}
-use Rattle.runs.proofs.RunLaws.{run-on}
+use Rattle.runs.proofs.RunLaws.{four-is, run-on}
 use Rattle.runs.proofs.over.Statement.{statement}
 use Rattle.runs.proofs.over.Tie as tie
 

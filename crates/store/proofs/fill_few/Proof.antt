@@ -1,6 +1,6 @@
 use native.Mathlib.Omega.{arith}
 use borrow.Author.Needs.{needs}
-use Rattle.blocks.proofs.BlockLaws.{few-free}
+use Rattle.store.proofs.FewLaws.{few-free}
 use Rattle.store.proofs.OverLaws.{fill-ends}
 use Rattle.store.proofs.fill_few.Statement.{statement}
 use Rattle.store.proofs.fill_few.Tie as tie
@@ -10,7 +10,7 @@ fours c =
     let q = c .before .before in
     let p = q .before .before .before .before in
     let a = p .before .before .before .before .args in
-    fill-ends (a .out .now) (a .at) (a .n) 4 (a .free) (omega arith) (omega arith) (p .put-four .ensures) (omega arith) (q .put-four2 .ensures)
+    fill-ends (a .out .now) (a .at) (a .n) 4 (a .free) (omega arith) (omega arith) (p .set .ensures) (omega arith) (q .set2 .ensures)
 
 few : tie.Need-returns-3
 few c =

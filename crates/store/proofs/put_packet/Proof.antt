@@ -1,38 +1,32 @@
 use native.Mathlib.Omega.{arith}
-use mathlib.Core.Path.{refl}
+use mathlib.Core.Path.{ap}
+use lib.ListN.{length}
+use lib.Seq.{sets, take-all}
 use borrow.Author.Needs.{needs}
-use Rattle.store.proofs.OverLaws.{part-ends}
+use Rattle.store.proofs.FewLaws.{few-part}
 use Rattle.store.proofs.put_packet.Statement.{statement}
 use Rattle.store.proofs.put_packet.Tie as tie
 
-eights : tie.Need-returns-2
-eights c =
-    let q = c .before .before in
-    let p = q .before .before .before .before in
-    let a = p .before .before .before .before .before .before .args in
-    part-ends (a .packet .now) (a .out .now) (a .at) 8 8 (omega arith) (omega arith) (p .copy-eight .ensures) (omega arith) refl
-    (q .copy-eight2 .ensures)
+none : tie.Need-returns
+none c =
+    let a = c .before .before .before .args in
+    ap (sets (a .out .now) (a .at)) (take-all 0 (a .packet .now) (omega arith))
 
-sixteens : tie.Need-returns-3
-sixteens c =
-    let q = c .before .before in
-    let p = q .before .before .before .before in
-    let a = p .before .before .before .before .before .before .before .args in
-    part-ends (a .packet .now) (a .out .now) (a .at) 16 16 (omega arith) (omega arith) (p .copy-sixteen .ensures) (omega arith) refl
-    (q .copy-sixteen2 .ensures)
+few : tie.Need-returns-2
+few c =
+    let p = c .before .before in
+    let a = p .before .before .before .before .before .before .before .before .before .args in
+    rw (few-part (a .packet .now) (omega arith)) at (p .put-few .ensures)
 
-thirty-twos : tie.Need-returns-4
-thirty-twos c =
-    let q = c .before .before in
-    let p = q .before .before .before .before in
-    let a = p .before .before .before .before .before .before .before .before .args in
-    part-ends (a .packet .now) (a .out .now) (a .at) 32 32 (omega arith) (omega arith) (p .copy-thirty-two .ensures) (omega arith) refl
-    (q .copy-thirty-two2 .ensures)
+many : tie.Need-returns-6
+many c =
+    let p = c .before .before in
+    let t = p .before .before .before .before .before .before .before .before .before .args .packet .now in
+    rw (take-all (length t) t (omega arith)) at (p .copy .ensures)
 
 pub put-packet-spec : {M : Type 1} → statement M
 put-packet-spec =
     tie.close
-    (tie.spec (λ c κs. search needs) (λ c. search needs) (λ c. search needs) (λ c κs. search needs) (λ c. search needs) (λ c. search needs)
-    (λ c κs. search needs) (λ c. search needs) eights (λ c κs. search needs) (λ c. search needs) (λ c. search needs) (λ c κs. search needs)
-    (λ c. search needs) sixteens (λ c κs. search needs) (λ c. search needs) (λ c. search needs) (λ c κs. search needs) (λ c. search needs)
-    thirty-twos (λ c κs. search needs) (λ c. search needs) (λ c. search needs))
+    (tie.spec none (λ c. search needs) (λ c. search needs) (λ c. search needs) (λ c. search needs) (λ c κs. search needs)
+    (λ c. search needs) few (λ c κs. search needs) (λ c. search needs) (λ c. search needs) (λ c κs. search needs) (λ c. search needs)
+    (λ c. search needs) (λ c κs. search needs) (λ c. search needs) (λ c. search needs) (λ c κs. search needs) (λ c. search needs) many)

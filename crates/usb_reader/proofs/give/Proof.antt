@@ -2,7 +2,8 @@
 use mathlib.Core.Path.{sym, _∙_}
 use borrow.Author.Needs.{needs}
 use borrow.Author.Tests.{ltb-true, ltb-false}
-use Rattle.rows.proofs.AnswerLaws.{is-crowded, is-given, has-room}
+use Rattle.rows.proofs.AnswerLaws.{is-crowded, is-given}
+use Rattle.usb_reader.proofs.ReadsLaws.{roomy}
 use Rattle.usb_reader.proofs.give.Statement.{statement}
 use Rattle.usb_reader.proofs.give.Tie as tie
 
@@ -16,9 +17,7 @@ no-room c =
 fits : tie.Need-fill-requires
 fits c κs =
     let f = c .before .before in
-    let g = f .before .before .before .pre in
-    let l = ltb-false _ _ (sym (f .few .ensures) ∙ c .before .if1 .left) in
-    record { given = g .given; sane = g .sane; room = has-room (g .judged) _ l }
+    roomy (f .before .before .before .pre) (ltb-false _ _ (sym (f .few .ensures) ∙ c .before .if1 .left))
 
 given : tie.Need-returns-2
 given c =

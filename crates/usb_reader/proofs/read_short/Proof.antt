@@ -2,6 +2,7 @@
 use native.Mathlib.Omega.{arith}
 use borrow.Author.Needs.{needs}
 use Rattle.rows.proofs.AnswerLaws.{is-refused}
+use Rattle.usb_reader.proofs.ReadsLaws.{begun}
 use Rattle.usb_reader.proofs.read_short.Statement.{statement}
 use Rattle.usb_reader.proofs.read_short.Tie as tie
 
@@ -9,8 +10,7 @@ counted : tie.Need-give-requires
 counted c κs =
     let m = c .before .before in
     let j = m .before .before in
-    let h = j .before .before .before .pre in
-    record { given = h .given; sane = h .sane; judged = rw (m .k .given .1) at (j .judge .ensures) }
+    record { readable = j .before .before .before .pre; judged = rw (m .k .given .1) at (j .judge .ensures) }
 
 place-small : tie.Need-refuse-requires
 place-small c κs =
@@ -27,5 +27,5 @@ refused c =
 pub read-short-spec : {M : Type 1} → statement M
 read-short-spec =
     tie.close
-    (tie.spec (λ c κs. search needs) (λ c. search needs) counted (λ c. search needs) place-small (λ c. search needs) (λ c. search needs)
+    (tie.spec (λ c κs. begun (c .before .before .pre)) (λ c. search needs) counted (λ c. search needs) place-small (λ c. search needs) (λ c. search needs)
     (λ c. search needs) refused)

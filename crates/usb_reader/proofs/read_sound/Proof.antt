@@ -12,7 +12,8 @@ readable : tie.Need-read-short-requires
 readable c κs =
     let v = c .before .before .before in
     record {
-      given = record { ready = v .before .before .before .pre; small = omega arith };
+      ready = v .before .before .before .pre;
+      small = omega arith;
       sane = sane (sym (v .valid .ensures) ∙ c .before .before .if1 .taken);
     }
 

@@ -1,52 +1,47 @@
--- The room decides. In each answer e is the place behind `ended`, b that behind `crowded`.
+-- The sizes decide. In each answer z is the place behind `size`, t a test, s the start.
 use native.Mathlib.Omega.{arith}
-use mathlib.Core.Path.{sym, _∙_}
-use lib.ListN.{length}
+use mathlib.Core.Path.{sym, ap, _∙_}
 use borrow.Author.Needs.{needs}
 use Rattle.packet.proofs.AnswerLaws.{gives-so}
-use Rattle.usb_writer.proofs.WritesLaws.{crowded, roomy, written}
+use Rattle.lengths.proofs.LengthsLaws.{differs}
+use Rattle.usb_writer.proofs.WritesLaws.{sizing, fitted, unfit, unmatched}
 use Rattle.usb_writer.proofs.write_sized.Statement.{statement}
 use Rattle.usb_writer.proofs.write_sized.Tie as tie
 
-refused : tie.Need-returns
-refused c =
+sizes : tie.Need-size-requires
+sizes c κs = sizing (c .before .before .before .pre)
+
+misfit : tie.Need-returns
+misfit c =
     let r = c .before .before in
     let t = r .before .before in
-    let b = t .before in
-    let e = b .before in
-    let s = e .before .before .before .before in
-    gives-so (crowded _ _ _ (s .args .fill) _ _ (s .pre) (e .ended .ensures) (sym (b .crowded .ensures) ∙ t .if1 .taken)) (r .refuse .ensures)
+    let z = t .before .before in
+    let s = z .before .before .before .before in
+    gives-so (unfit _ _ _ (s .args .fill) (s .args .full) _ (s .pre) (z .size .ensures) (t .if1 .taken)) (r .refuse-misfit .ensures)
 
-room : tie.Need-compose-requires
-room c κs =
+unlike : tie.Need-returns-2
+unlike c =
+    let r = c .before .before in
+    let t = r .before .before in
+    let u = t .before .before in
+    let z = u .before .before in
+    let s = z .before .before .before .before in
+    let m = z .size .ensures in
+    let w = m .all (omega (arith, m .few, u .if1 .left)) in
+    gives-so
+    (unmatched _ _ _ (s .args .fill) (s .args .full) _ (s .pre .ready) (s .pre .held)
+    (differs (s .args .lengths .now) (s .args .packets .now) (λ e. t .if2 .taken (w .sum ∙ e)))) (r .refuse .ensures)
+
+fits : tie.Need-write-fitted-requires
+fits c κs =
     let t = c .before in
-    let b = t .before in
-    let e = b .before in
-    let s = e .before .before .before .before in
-    roomy (s .pre) (e .ended .ensures) {n = length (s .args .out .now)} (sym (b .crowded .ensures) ∙ t .if1 .left)
-
-short : tie.Need-cast-count
-short c =
-    let t = c .before .before .before .before in
-    let b = t .before in
-    let e = b .before in
-    let s = e .before .before .before .before in
-    let h = roomy (s .pre) (e .ended .ensures) {n = length (s .args .out .now)} (sym (b .crowded .ensures) ∙ t .if1 .left) in
-    omega (arith, h .most)
-
-wrote : tie.Need-returns-2
-wrote c =
-    let w = c .before .before in
-    let t = w .before .before in
-    let b = t .before in
-    let e = b .before in
-    let s = e .before .before .before .before in
-    let a = s .args in
-    let h = roomy (s .pre) (e .ended .ensures) {n = length (a .out .now)} (sym (b .crowded .ensures) ∙ t .if1 .left) in
-    written (a .packets .now) (a .lengths .now) (a .first) (a .fill) (a .full) (a .out .now) (s .pre) (e .ended .ensures) h (w .compose .ensures)
+    let u = t .before .before in
+    let z = u .before .before in
+    let s = z .before .before .before .before in
+    fitted (s .pre) (z .size .ensures) (omega (arith, u .if1 .left)) (t .if2 .left)
 
 pub write-sized-spec : {M : Type 1} → statement M
 write-sized-spec =
     tie.close
-    (tie.spec (λ c κs. search needs) (λ c κs. search needs) (λ c κs. search needs) (λ c. search needs) refused room short (λ c. search needs)
-    wrote)
+    (tie.spec sizes (λ c κs. search needs) (λ c. search needs) misfit (λ c κs. search needs) (λ c. search needs) unlike fits (λ c. search needs)
+    (λ c. search needs))

@@ -1,0 +1,57 @@
+-- Places, by the layout's case: 0 single, 1 multiple, 2 streaming, 3 frame.
+use Prim.Native.Nat.{ℕ, _+_, _-_, _%_, _<_, _≤_}
+use mathlib.Core.Path.{_≡_}
+use mathlib.Core.Bool.{Bool, cond, _||_}
+use lib.Dec.{eqb, ltb}
+use Rattle.layout.specs.Multiple.{pad, Aligned}
+use Rattle.packet.specs.declared.At.{At}
+
+-- whether data packets may end with a rest
+abbrev pub rests : ℕ → Bool
+rests layout = eqb layout 1 || eqb layout 2
+
+-- where the header stands at a place: a frame's place is the end of a packet, and the byte before the next packet is its header
+abbrev pub headerAt : (layout align q : ℕ) → ℕ
+headerAt layout align q = cond (eqb layout 3) (q + pad align (q + 1)) q
+
+-- the place behind a packet that ends at e: behind its tail, where it has one
+abbrev pub behindAt : (layout align e : ℕ) → ℕ
+behindAt layout align e = cond (eqb layout 3) e (e + pad align e)
+
+-- the end of a stream's data packet: this one's, the next one's, or found by a division
+abbrev pub streamedAt : (m end q : ℕ) → ℕ
+streamedAt m end q =
+    let next = cond (ltb q end) end (end + m) in
+    cond (ltb q next) next (q + (m - q % m))
+
+-- the start of the next data packet
+abbrev pub nextPacket : ℕ → At → At
+nextPacket m a = record { q = a .end; end = a .end + m }
+
+-- the place behind a message whose bytes end at `next`; behind a single one the rest of its data packet is passed
+abbrev pub onAt : (layout m : ℕ) → At → (next : ℕ) → At
+onAt layout m a next =
+    cond (eqb layout 0) (nextPacket m a)
+    (cond (eqb layout 2) (record { q = next; end = streamedAt m (a .end) next }) (record { q = next; end = a .end }))
+
+---- What the functions ask and tell --------------------------------------------------------------------------------------------
+
+-- a place that can be rounded up
+pub record Near (align q : ℕ) : Type 0 where
+  pub aligned : Aligned align
+  pub near : q < 1000000
+
+-- x, which is at most seven beyond q
+pub record Beyond (x q r : ℕ) : Type 0 where
+  pub is : r ≡ x
+  pub on : q ≤ r
+  pub small : r ≤ q + 7
+
+pub record Streaming (m end q : ℕ) : Type 0 where
+  pub cut : 0 < m
+  pub short : m ≤ 1024
+  pub near : q < 1000000000
+  pub far : end < 1000000000
+
+pub record Onward (m : ℕ) (a : At) (next : ℕ) : Type 0 where
+  pub streaming : Streaming m (a .end) next

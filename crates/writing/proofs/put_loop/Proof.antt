@@ -1,0 +1,86 @@
+-- What is left of the list, written from here on, comes to the whole. In each answer d is the place behind `place`, w that behind `wide32`, t the
+-- loop's test, s the start.
+use Prim.Native.Nat.{_-_}
+use native.Mathlib.Omega.{arith}
+use mathlib.Core.Path.{refl}
+use lib.ListN.{length}
+use borrow.Author.Needs.{needs}
+use Rattle.packet.proofs.TakeLaws.{inside, part-is}
+use Rattle.writing.proofs.AllLaws.{Writing, writing, writing-done, said, placing, passing, writing-next}
+use Rattle.writing.proofs.put_loop.Statement.{statement}
+use Rattle.writing.proofs.put_loop.Tie as tie
+
+abbrev Inv-loop : tie.InvT-loop
+Inv-loop layout lenwidth ctrwidth size align p b packets lengths out₀ a₀ c₀ from₀ i₀ out a c from i =
+    Writing p b packets lengths out₀ out a c from i
+
+abbrev μ-loop : tie.MeasureT-loop
+μ-loop layout lenwidth ctrwidth size align p b packets lengths out₀ a₀ c₀ from₀ i₀ out a c from i = length lengths - i
+
+begins : tie.Need-loop-holds Inv-loop μ-loop
+begins c = writing (c .before .before .before .pre .1)
+
+to-fits : tie.Need-add-to Inv-loop μ-loop
+to-fits c =
+    let t = c .before .before in
+    let h = inside (t .before .loop .inv .taking) (t .loop-test .taken) (c .wide32 .ensures .0) in
+    search needs
+
+places : tie.Need-place-requires Inv-loop μ-loop
+places c κs =
+    let t = c .before .before in
+    let s = t .before .before .before .before .before in
+    placing (s .pre .1) (t .before .loop .inv) (s .pre .0) (t .loop-test .taken) (c .wide32 .ensures .0)
+
+ends-inside : tie.Need-part-part-end Inv-loop μ-loop
+ends-inside c =
+    let w = c .before in
+    let t = w .before .before in
+    let h = inside (t .before .loop .inv .taking) (t .loop-test .taken) (w .wide32 .ensures .0) in
+    search needs
+
+stands : tie.Need-put-one-requires Inv-loop μ-loop
+stands c κs =
+    let d = c .before .before in
+    let w = d .before in
+    let t = w .before .before in
+    let s = t .before .before .before .before .before in
+    passing (s .pre .1) (t .before .loop .inv) (s .pre .0) (t .loop-test .taken) (w .wide32 .ensures .0) (d .place .ensures)
+    (part-is (s .args .packets .now) (t .before .loop .from) (w .wide32 .result))
+
+says : tie.Need-after-requires Inv-loop μ-loop
+says c κs =
+    let t = c .before .before .before .before .before .before .before .before in
+    let s = t .before .before .before .before .before in
+    said (s .pre .1) (t .before .loop .inv) (s .pre .0)
+
+counts : tie.Need-add-i Inv-loop μ-loop
+counts c =
+    let t = c .before .before .before .before .before .before .before .before .before .before in
+    let s = t .before .before .before .before .before in
+    record { fits = omega (arith, t .loop-test .taken, s .pre .1 .few) }
+
+falls : tie.Need-loop-less Inv-loop μ-loop
+falls c =
+    let t = c .before .before .before .before .before .before .before .before .before .before in
+    omega (arith, t .loop-test .taken)
+
+again : tie.Need-loop-again Inv-loop μ-loop
+again c =
+    let r = c .before in
+    let o = r .before .before .before in
+    let d = o .before .before .before in
+    let w = d .before in
+    let t = w .before .before in
+    let s = t .before .before .before .before .before in
+    writing-next (s .pre .1) (t .before .loop .inv) (s .pre .0) (t .loop-test .taken) (w .wide32 .ensures .0) (d .place .ensures)
+    (part-is (s .args .packets .now) (t .before .loop .from) (w .wide32 .result)) refl (o .put-one .ensures) (r .after .ensures)
+
+ends : tie.Need-returns Inv-loop μ-loop
+ends c = writing-done (c .before .before .before .before .before .pre .1) (c .before .loop .inv) (omega arith)
+
+pub put-loop-spec : {M : Type 1} → statement M
+put-loop-spec =
+    tie.close
+    (tie.spec Inv-loop μ-loop begins (λ c. search needs) (λ c. search needs) (λ c κs. search needs) to-fits places (λ c. search needs)
+    (λ c. search needs) ends-inside stands says counts falls again (λ c. search needs) ends)

@@ -1,0 +1,82 @@
+-- Sizing a list of messages: the first length that does not fit, and the place behind all of them.
+use Prim.Native.Nat.{ℕ, suc, _+_, _-_, _%_, _<_, _≤_, min}
+use mathlib.Core.Path.{_≡_}
+use mathlib.Core.Bool.{Bool, cond, _&&_, _||_}
+use mathlib.Core.List.{List, [], _∷_}
+use lib.ListN.{length}
+use lib.Dec.{eqb, ltb}
+use Rattle.layout.specs.Multiple.{Aligned}
+use Rattle.packet.specs.declared.At.{At}
+use Rattle.packet.specs.Limit.{mostLengths}
+use Rattle.packet.specs.Packets.{sum as sumOf}
+use Rattle.plan.specs.declared.Plan.{Plan}
+use Rattle.writing.specs.declared.Sized.{Sized}
+use Rattle.writing.specs.declared.Spot.{Spot}
+use Rattle.writing.specs.Places.{spotAt}
+
+-- what the loops ask of a plan
+pub record Formed (p : Plan) : Type 0 where
+  pub aligned : Aligned (p .align)
+  pub size-least : 1 ≤ p .size
+  pub size-most : p .size ≤ 4
+  pub cut-least : 8 ≤ p .datapacket
+  pub cut-most : p .datapacket ≤ 1024
+  pub longest-most : p .longest < 65536
+  pub layout-most : p .layout ≤ 3
+  -- an alignment divides a data packet
+  pub eights : p .layout < 2 → p .datapacket % 8 ≡ 0
+
+-- a case said by literals is the plan's
+pub record Alike (l z g : ℕ) (p : Plan) : Type 0 where
+  pub layout : l ≡ p .layout
+  pub size : z ≡ p .size
+  pub align : g ≡ p .align
+
+pub record Limited (l z : ℕ) (p : Plan) : Type 0 where
+  pub formed : Formed p
+  pub layout : l ≡ p .layout
+  pub size : z ≡ p .size
+
+-- a message with a packet of n bytes, from a place on
+abbrev pub spot : Plan → At → ℕ → Spot
+spot p a n = spotAt (p .layout) (p .size) (p .align) (p .datapacket) a n
+
+-- the longest packet that fits by its length: in single and multiple packing its message fits a data packet
+abbrev pub limitOf : Plan → ℕ
+limitOf p = cond (ltb (p .layout) 2) (min (p .longest) (p .datapacket - p .size)) (p .longest)
+
+-- a length 0, or over that, or, in a frame, of a packet that ends past it
+abbrev pub misfit : Plan → At → ℕ → Bool
+misfit p a n = (eqb n 0 || ltb (limitOf p) n) || (eqb (p .layout) 3 && ltb (p .datapacket) (spot p a n .next .q))
+
+-- the index of the first length that does not fit, from a place on
+unfoldable pub misfitAt : Plan → At → List ℕ → ℕ
+misfitAt p a [] = 0
+misfitAt p a (n ∷ ns) = cond (misfit p a n) 0 (suc (misfitAt p (spot p a n .next) ns))
+
+-- the place behind messages with packets of these lengths
+unfoldable pub reach : Plan → At → List ℕ → At
+reach p a [] = a
+reach p a (n ∷ ns) = reach p (spot p a n .next) ns
+
+---- What sizing asks and tells -------------------------------------------------------------------------------------------------
+
+-- the first place. In a frame it is the end of the packet before, or where the header ends but for its last byte
+abbrev pub first : ℕ → At
+first q = record { q = q; end = 0 }
+
+pub record Sizable (layout size align : ℕ) (p : Plan) (q : ℕ) (ns : List ℕ) : Type 0 where
+  pub alike : Alike layout size align p
+  pub formed : Formed p
+  pub few : length ns ≤ mostLengths
+  pub near : q ≤ 4
+
+-- all of the lengths are taken
+pub record Whole (p : Plan) (q : ℕ) (ns : List ℕ) (r : Sized) : Type 0 where
+  pub sum : r .sum ≡ sumOf ns
+  pub behind : r .behind ≡ reach p (first q) ns
+
+pub record SizedAs (p : Plan) (q : ℕ) (ns : List ℕ) (r : Sized) : Type 0 where
+  pub taken : r .taken ≡ misfitAt p (first q) ns
+  pub few : r .taken ≤ length ns
+  pub all : r .taken ≡ length ns → Whole p q ns r
