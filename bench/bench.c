@@ -1,7 +1,9 @@
 /*
  * Measures the library against idiomatic.c and tuned.c in one process. First all three are held to the same answers, on random
- * cases and on every case that is measured; if one differs the exit status is 1. Then they take turns, with memcpy of the same
- * bytes as the fourth. For a text, plain.c stands for both: its reader gives the answers, its tokenizer only counts the words.
+ * cases and on every case that is measured; if one differs the exit status is 1. Then they take turns with a copy of tuned, with
+ * memcpy of the same bytes, and where they write with the memcpy and memset of packets and free bytes alone. What the copy takes
+ * against tuned shows how exact the ratios are. For a text, plain.c stands for both: its reader gives the answers, its tokenizer
+ * only counts the words.
  */
 #include <stdio.h>
 #include <string.h>
@@ -11,11 +13,13 @@
 
 enum { SINGLE, MULTIPLE, STREAMING };
 enum { LONGEST = 56 }; /* of a packet, for a text */
-enum { TRANSFER = 262144, LENGTHS = 4096, ROWS = 131072, FRAMES = 1032, FRAME = 254 };
-enum { OURS, IDIOMATIC, TUNED, MEMCPY, WAYS };
+enum { TRANSFER = 262144, LENGTHS = 4096, ROWS = 131072, FRAMES = 1032, FRAME = 254, FILL = 0xEE };
+enum { OURS, IDIOMATIC, TUNED, COPY, MEMCPY, LEAST, WAYS };
 enum { READER = IDIOMATIC, TOKENIZER = TUNED }; /* for a text */
+enum { BASIC = 1 << OURS | 1 << IDIOMATIC | 1 << TUNED | 1 << MEMCPY, READS = BASIC | 1 << COPY, WRITES = READS | 1 << LEAST };
 enum { MOST_ROUNDS = 4000, SAMPLE = 100000 }; /* SAMPLE: least nanoseconds of one timed run */
-enum { PASSES = 7, MOST_LINES = 64 };
+enum { PASSES = 7, MOST_LINES = 128 };
+enum { COUNTED = 100, COUNTED_BYTES = 20000, COUNTED_FRAMES = 4 }; /* of these the instructions are counted */
 
 typedef struct {
     xcp_read (*usb_read)(xcp_usb_setting, const uint8_t *, size_t, xcp_counter, uint32_t *, size_t);
@@ -26,10 +30,11 @@ typedef struct {
                                  uint8_t *, size_t);
 } implementation;
 
-static const implementation ways[3] = {
+static const implementation ways[4] = {
     {xcp_usb_read, xcp_usb_write, xcp_flexray_read, xcp_flexray_write},
     {idiomatic_usb_read, idiomatic_usb_write, idiomatic_flexray_read, idiomatic_flexray_write},
     {tuned_usb_read, tuned_usb_write, tuned_flexray_read, tuned_flexray_write},
+    {copy_usb_read, copy_usb_write, copy_flexray_read, copy_flexray_write},
 };
 
 /* What is measured: frames, or transfers, one behind another in `transfer`; `lengths` and `packets` are those of all. */
@@ -40,8 +45,31 @@ static struct {
     uint32_t in[FRAMES], length_of[FRAMES], bytes_of[FRAMES];   /* of each: its packets, its bytes, its packets' bytes */
 } it;
 
-static uint8_t packets[TRANSFER], transfer[TRANSFER], outs[3][TRANSFER], copied[TRANSFER];
-static uint32_t lengths[ROWS], tables[3][5 * (ROWS + 8)];
+/* Each array starts behind a page's start by an offset, another one in each pass: of the bytes that are read, of those that are
+   written, and of lengths and rows. */
+enum { PAGE = 4096 };
+static const struct { uint32_t read, written, numbers; } offsets[PASSES] = {
+    {0, 0, 0}, {1, 0, 4}, {7, 67, 8}, {64, 1, 12}, {67, 7, 16}, {33, 129, 60}, {4093, 2050, 36},
+};
+
+static _Alignas(PAGE) uint8_t packet_pages[TRANSFER + PAGE], transfer_pages[TRANSFER + PAGE], out_pages[3][TRANSFER + PAGE],
+    copied_pages[TRANSFER + PAGE];
+static _Alignas(PAGE) uint32_t length_pages[ROWS + PAGE], table_pages[3][5 * ROWS + PAGE];
+
+static uint8_t *packets, *transfer, *outs[3], *copied;
+static uint32_t *lengths, *tables[3];
+
+static void place_arrays(int pass)
+{
+    packets = packet_pages + offsets[pass].read;
+    transfer = transfer_pages + offsets[pass].read;
+    copied = copied_pages + offsets[pass].written;
+    lengths = length_pages + offsets[pass].numbers / sizeof *lengths;
+    for (int w = 0; w < 3; w++) {
+        outs[w] = out_pages[w] + offsets[pass].written;
+        tables[w] = table_pages[w] + offsets[pass].numbers / sizeof *tables[w];
+    }
+}
 
 static unsigned long long seed = 1;
 
@@ -106,8 +134,8 @@ static int agree_write(int flexray, const uint8_t *p, size_t n, const uint32_t *
     xcp_written r[3];
     for (int w = 0; w < 3; w++) {
         memset(outs[w], 0x5A, whole);
-        r[w] = flexray ? ways[w].flexray_write(it.flexray, p, n, l, count, first, 0xEE, outs[w], room)
-                       : ways[w].usb_write(it.usb, p, n, l, count, first, 0xEE, fill_up, outs[w], room);
+        r[w] = flexray ? ways[w].flexray_write(it.flexray, p, n, l, count, first, FILL, outs[w], room)
+                       : ways[w].usb_write(it.usb, p, n, l, count, first, FILL, fill_up, outs[w], room);
     }
     *answer = r[0];
     for (int w = 1; w < 3; w++)
@@ -116,40 +144,54 @@ static int agree_write(int flexray, const uint8_t *p, size_t n, const uint32_t *
     return 1;
 }
 
-/* Random settings, sound and not, written, damaged and read. Gives the cases in which the three differ. */
+/* Settings, sound and not. */
+static void random_settings(void)
+{
+    static const uint32_t pairs[12][2] = {{0, 1}, {1, 2}, {2, 4}, {3, 1}, {3, 2}, {4, 4}, {5, 1}, {5, 2}, {6, 4}, {7, 1},
+                                          {8, 2}, {8, 4}};
+    uint32_t header = random_below(6), pair = random_below(12);
+    it.usb = (xcp_usb_setting){header, random_below(3), 1u << random_below(4), 8 * random_from(1, random_below(4) ? 12 : 128),
+                               random_from(8, header < 3 ? 255 : random_below(4) ? 300 : 3000), random_below(2)};
+    it.flexray = (xcp_flexray_setting){random_below(256), random_below(2), 2 * random_from(4, 127), pairs[pair][0], pairs[pair][1]};
+    if (random_below(16) == 0) {
+        uint32_t *fields[11] = {&it.usb.header, &it.usb.packing, &it.usb.align, &it.usb.data_packet, &it.usb.longest,
+                                &it.usb.direction, &it.flexray.node, &it.flexray.direction, &it.flexray.ceiling,
+                                &it.flexray.header, &it.flexray.align};
+        *fields[random_below(11)] = random_below(4) == 0 ? 0u - random_below(3) : random_below(300);
+    }
+}
+
+/* Gives the sum of the lengths. */
+static uint32_t random_lengths(uint32_t count, int flexray)
+{
+    uint32_t most = 1u << random_below(7), sum = 0;
+    if (random_below(8) == 0)
+        most = flexray ? 250 : random_below(2) ? 255 : 3000;
+    for (uint32_t k = 0; k < count; k++)
+        sum += lengths[k] = random_from(random_below(40) != 0, most);
+    return sum;
+}
+
+/* Random settings and lists are written; what was written, or any bytes, is damaged and read. Gives the cases in which the three
+   differ. */
 static unsigned differing(unsigned cases, unsigned *refused)
 {
+    enum { ROOM = 16384, NUMBERS = 20000 };
     unsigned differ = 0;
     *refused = 0;
     for (unsigned i = 0; i < cases; i++) {
         int flexray = i % 3 == 2;
-        uint32_t header = random_below(6), wide = header > 2;
-        it.usb = (xcp_usb_setting){header, random_below(3), 1u << random_below(4), 8 * random_from(1, 12),
-                                   random_from(8, wide ? 300 : 255), random_below(2)};
-        static const uint32_t pairs[12][2] = {{0, 1}, {1, 2}, {2, 4}, {3, 1}, {3, 2}, {4, 4}, {5, 1}, {5, 2}, {6, 4}, {7, 1},
-                                              {8, 2}, {8, 4}};
-        uint32_t pair = random_below(12);
-        it.flexray = (xcp_flexray_setting){random_below(256), random_below(2), 2 * random_from(4, 127), pairs[pair][0],
-                                           pairs[pair][1]};
-        if (random_below(16) == 0) {
-            uint32_t *fields[11] = {&it.usb.header, &it.usb.packing, &it.usb.align, &it.usb.data_packet, &it.usb.longest,
-                                    &it.usb.direction, &it.flexray.node, &it.flexray.direction, &it.flexray.ceiling,
-                                    &it.flexray.header, &it.flexray.align};
-            *fields[random_below(11)] = random_below(4) == 0 ? 0u - random_below(3) : random_below(300);
-        }
-
-        uint32_t count = random_below(flexray ? 4 : 24), most = 1u << random_below(7), sum = 0;
+        place_arrays((int)(i % PASSES));
+        random_settings();
+        uint32_t count = random_below(flexray ? 4 : 24);
         if (flexray && !random_below(2))
             count = 1;
-        for (uint32_t k = 0; k < count; k++) {
-            lengths[k] = random_from(random_below(40) != 0, most);
-            sum += lengths[k];
-        }
-        size_t room = random_below(8) ? 4096 : random_below(300);
+        uint32_t sum = random_lengths(count, flexray);
+        size_t room = random_below(8) ? ROOM : random_below(300);
         uint32_t first = random_below(8) ? random_below(256) : random_below(70000);
         xcp_written w;
         const uint8_t *p = packets + random_below(TRANSFER / 2);
-        if (!agree_write(flexray, p, sum + (random_below(30) == 0), lengths, count, first, random_below(2), room, 4200, &w))
+        if (!agree_write(flexray, p, sum + (random_below(30) == 0), lengths, count, first, random_below(2), room, ROOM + 100, &w))
             differ++;
         *refused += w.number != 0;
 
@@ -161,7 +203,7 @@ static unsigned differing(unsigned cases, unsigned *refused)
             n -= random_below(n < 9 ? (uint32_t)n : 9);
         xcp_counter c = {random_below(3), random_below(8) ? first : random_below(70000)};
         xcp_read r;
-        if (!agree_read(flexray, transfer, n, c, random_below(8) ? 20000 : random_below(60), 20000, &r))
+        if (!agree_read(flexray, transfer, n, c, random_below(8) ? NUMBERS : random_below(60), NUMBERS, &r))
             differ++;
         *refused += r.number != 0;
     }
@@ -199,6 +241,33 @@ static unsigned differing_texts(unsigned cases, unsigned *refused)
 
 /* Making what is measured. */
 
+/* Writes the next packets, as many as lengths[it.count..] names, behind what was made. */
+static xcp_written append(size_t count, uint32_t ctr, int fill_up, size_t *bytes)
+{
+    *bytes = 0;
+    for (size_t i = 0; i < count; i++)
+        *bytes += lengths[it.count + i];
+    return xcp_usb_write(it.usb, packets + it.bytes, *bytes, lengths + it.count, count, ctr, FILL, (uint32_t)fill_up,
+                         transfer + it.n, TRANSFER - it.n);
+}
+
+/* Draws lengths until a write or the packets' bytes are full, and gives how many of them fit behind what was made. */
+static size_t draw_fitting(uint32_t least, uint32_t most, uint32_t ctr, int fill_up)
+{
+    size_t count = 0, bytes = 0, fits = 0, sum;
+    while (count < LENGTHS && it.count + count < ROWS) {
+        uint32_t n = random_from(least, most);
+        if (it.bytes + bytes + n > TRANSFER)
+            break;
+        lengths[it.count + count++] = n;
+        bytes += n;
+    }
+    for (size_t step = LENGTHS; step != 0; step /= 2)
+        if (fits + step <= count && append(fits + step, ctr, fill_up, &sum).number == 0)
+            fits += step;
+    return fits;
+}
+
 /* One transfer with as many packets as fit; not more than 4096 in one write. Where it is only read, writes that are filled up are
    joined until no more fits: a reader takes more messages than one write gives. */
 static int make_usb(xcp_usb_setting s, uint32_t least, uint32_t most, int joined)
@@ -207,64 +276,41 @@ static int make_usb(xcp_usb_setting s, uint32_t least, uint32_t most, int joined
     it.n = it.count = it.bytes = 0;
     it.parts = 1;
     uint32_t ctr = 0;
-    for (;;) {
-        size_t count = 0, bytes = 0, fits = 0;
-        xcp_written w = {0, 0, 0};
-        while (count < LENGTHS && it.count + count < ROWS) {
-            uint32_t n = random_from(least, most);
-            if (it.bytes + bytes + n > TRANSFER)
-                break;
-            lengths[it.count + count++] = n;
-            bytes += n;
-        }
-        /* the most of them that fit, by halves */
-        for (size_t step = LENGTHS; step != 0; step /= 2) {
-            if (fits + step > count)
-                continue;
-            size_t sum = 0;
-            for (size_t i = 0; i < fits + step; i++)
-                sum += lengths[it.count + i];
-            w = xcp_usb_write(s, packets + it.bytes, sum, lengths + it.count, fits + step, ctr, 0xEE, (uint32_t)joined,
-                              transfer + it.n, TRANSFER - it.n);
-            if (w.number == 0)
-                fits += step;
-        }
+    do {
+        size_t bytes, fits = draw_fitting(least, most, ctr, joined);
         if (fits == 0)
-            return it.count != 0;
-        size_t sum = 0;
-        for (size_t i = 0; i < fits; i++)
-            sum += lengths[it.count + i];
-        w = xcp_usb_write(s, packets + it.bytes, sum, lengths + it.count, fits, ctr, 0xEE, (uint32_t)joined, transfer + it.n,
-                          TRANSFER - it.n);
+            break;
+        xcp_written w = append(fits, ctr, joined, &bytes);
+        if (w.number != 0)
+            return 0;
         it.n += w.value;
-        it.bytes += sum;
+        it.bytes += bytes;
         it.count += fits;
         ctr = w.counter;
-        it.in[0] = (uint32_t)it.count;
-        it.length_of[0] = (uint32_t)it.n;
-        it.bytes_of[0] = (uint32_t)it.bytes;
-        if (!joined || w.number != 0)
-            return w.number == 0;
-    }
+    } while (joined);
+    it.in[0] = (uint32_t)it.count;
+    it.length_of[0] = (uint32_t)it.n;
+    it.bytes_of[0] = (uint32_t)it.bytes;
+    return it.count != 0;
 }
 
-/* Frames of 254 bytes: packets until none fits, the last one cut to fit. */
-static int make_flexray(xcp_flexray_setting s, uint32_t least, uint32_t most)
+/* Frames of up to 254 bytes, with LEN: packets until none fits, the last one cut to fit. */
+static int make_flexray(xcp_flexray_setting s, uint32_t size, uint32_t least, uint32_t most)
 {
     it.flexray = s;
     it.n = it.count = it.bytes = 0;
     uint32_t ctr = 0;
     for (it.parts = 0; it.parts < FRAMES; it.parts++) {
-        uint32_t at = 3, count = 0, bytes = 0;
+        uint32_t at = size, count = 0, bytes = 0;
         while (at < FRAME) {
             uint32_t n = random_from(least, most);
             if (at + n > FRAME)
                 n = FRAME - at;
             lengths[it.count + count++] = n;
             bytes += n;
-            at += n + 1;
+            at = (at + n + s.align) & ~(s.align - 1);
         }
-        xcp_written w = xcp_flexray_write(s, packets + it.bytes, bytes, lengths + it.count, count, ctr, 0xEE, transfer + it.n,
+        xcp_written w = xcp_flexray_write(s, packets + it.bytes, bytes, lengths + it.count, count, ctr, FILL, transfer + it.n,
                                           FRAME);
         if (w.number != 0)
             return 0;
@@ -288,7 +334,7 @@ static int make_parts(xcp_usb_setting s, uint32_t least, uint32_t most, size_t c
         uint32_t bytes = 0, in = (uint32_t)(count / parts);
         for (uint32_t i = 0; i < in; i++)
             bytes += lengths[it.count + i] = random_from(least, most);
-        xcp_written w = xcp_usb_write(s, packets + it.bytes, bytes, lengths + it.count, in, 0, 0xEE, 0, transfer + it.n,
+        xcp_written w = xcp_usb_write(s, packets + it.bytes, bytes, lengths + it.count, in, 0, FILL, 0, transfer + it.n,
                                       TRANSFER - it.n);
         if (w.number != 0)
             return 0;
@@ -302,9 +348,46 @@ static int make_parts(xcp_usb_setting s, uint32_t least, uint32_t most, size_t c
     return 1;
 }
 
+/* Where a packet comes from and goes to, its length, and the free bytes behind it up to the next header. */
+typedef struct { uint32_t from, to, length, behind; } move;
+
+static move moves[ROWS];
+
+/* The moves of what was made, from the rows of a reader. */
+static void make_moves(int flexray)
+{
+    size_t from = 0, start = 0;
+    move *m = moves;
+    for (size_t i = 0; i < it.parts; i++) {
+        uint32_t n = it.length_of[i], *row = tables[0];
+        xcp_counter fresh = {0, 0};
+        if (flexray)
+            idiomatic_flexray_read(it.flexray, transfer + start, n, fresh, row, 5 * ROWS);
+        else
+            idiomatic_usb_read(it.usb, transfer + start, n, fresh, row, 5 * ROWS);
+        uint32_t header = flexray ? 1 : row[0];
+        for (uint32_t k = it.in[i]; k != 0; k--, row += 5, m++) {
+            uint32_t end = row[0] + row[1], next = k > 1 ? row[5] - header : n;
+            *m = (move){(uint32_t)from, (uint32_t)start + row[0], row[1], next - end};
+            from += row[1];
+        }
+        start += n;
+    }
+}
+
 /* One run of each job in one of the ways. The sum of what they answer is kept, so that no call is left out. */
 
 typedef enum { USB_READ, USB_WRITE, FLEXRAY_READ, FLEXRAY_WRITE, USB_SETTINGS } job;
+
+static int is_read(job j)
+{
+    return j == USB_READ || j == FLEXRAY_READ;
+}
+
+static int is_flexray(job j)
+{
+    return j == FLEXRAY_READ || j == FLEXRAY_WRITE;
+}
 
 static volatile uint32_t kept;
 
@@ -316,18 +399,26 @@ static uint32_t run_text(int w)
     return (w == OURS ? xcp_usb_settings : plain_usb_settings)(transfer, it.n, LONGEST).res_daq.data_packet;
 }
 
-static void run(job j, int w)
+static void run_memcpy(void)
 {
-    if (w == MEMCPY) {
-        memcpy(copied, transfer, it.n);
-        __asm__ volatile("" : : "r"(copied) : "memory");
-        return;
+    memcpy(copied, transfer, it.n);
+    __asm__ volatile("" : : "r"(copied) : "memory");
+}
+
+/* What no writer can leave out: each packet is copied, the free bytes behind it are filled. */
+static void run_least(void)
+{
+    for (size_t i = 0; i < it.count; i++) {
+        uint8_t *to = outs[0] + moves[i].to;
+        memcpy(to, packets + moves[i].from, moves[i].length);
+        if (moves[i].behind != 0)
+            memset(to + moves[i].length, FILL, moves[i].behind);
     }
-    if (j == USB_SETTINGS) {
-        kept += run_text(w);
-        return;
-    }
-    const implementation *f = &ways[w];
+    __asm__ volatile("" : : "r"(outs[0]) : "memory");
+}
+
+static void run_calls(job j, const implementation *f)
+{
     const uint8_t *t = transfer, *p = packets;
     const uint32_t *l = lengths;
     uint8_t *out = outs[0];
@@ -345,11 +436,11 @@ static void run(job j, int w)
             kept += r.value;
             break;
         case USB_WRITE:
-            x = f->usb_write(it.usb, p, it.bytes_of[i], l, it.in[i], 0, 0xEE, 0, out, it.length_of[i]);
+            x = f->usb_write(it.usb, p, it.bytes_of[i], l, it.in[i], 0, FILL, 0, out, it.length_of[i]);
             kept += x.value;
             break;
         case FLEXRAY_WRITE:
-            x = f->flexray_write(it.flexray, p, it.bytes_of[i], l, it.in[i], first, 0xEE, out, it.length_of[i]);
+            x = f->flexray_write(it.flexray, p, it.bytes_of[i], l, it.in[i], first, FILL, out, it.length_of[i]);
             first = x.counter;
             kept += x.value;
             break;
@@ -363,10 +454,22 @@ static void run(job j, int w)
     }
 }
 
+static void run(job j, int w)
+{
+    if (w == MEMCPY)
+        run_memcpy();
+    else if (w == LEAST)
+        run_least();
+    else if (j == USB_SETTINGS)
+        kept += run_text(w);
+    else
+        run_calls(j, &ways[w]);
+}
+
 /* Whether the three agree on all of it, and give back what was put in: reading the rows, writing the bytes. */
 static int agree(job j)
 {
-    int flexray = j == FLEXRAY_READ || j == FLEXRAY_WRITE, reads = j == USB_READ || j == FLEXRAY_READ;
+    int flexray = is_flexray(j), reads = is_read(j);
     size_t from = 0, at = 0, to = 0;
     xcp_read r = {0, 0, {0, 0}};
     xcp_written w;
@@ -395,7 +498,7 @@ static int agree(job j)
 
 static double samples[WAYS][MOST_ROUNDS], ratio[MOST_ROUNDS];
 
-static double median(double *a, int n)
+static void sort(double *a, int n)
 {
     for (int gap = n / 2; gap > 0; gap /= 2)
         for (int i = gap; i < n; i++) {
@@ -405,6 +508,11 @@ static double median(double *a, int n)
                 a[k] = a[k - gap];
             a[k] = x;
         }
+}
+
+static double median(double *a, int n)
+{
+    sort(a, n);
     return n % 2 ? a[n / 2] : (a[n / 2 - 1] + a[n / 2]) / 2;
 }
 
@@ -415,143 +523,235 @@ static double median_ratio(int a, int b, int rounds)
     return median(ratio, rounds);
 }
 
-/* ns for one run in each way, and the ratios. Each round times the four ways, and starts with another one. */
-typedef struct { double ns[WAYS], idiomatic, tuned; int rounds; } measured;
-
-static measured measure(job j, double budget)
+static double timed(job j, int w, int times)
 {
-    measured m;
-    int repeat[WAYS];
-    for (int w = 0; w < WAYS; w++) {
+    double t = now();
+    for (int k = 0; k < times; k++)
         run(j, w);
-        for (repeat[w] = 1;; repeat[w] *= 2) {
-            double t = now();
-            for (int k = 0; k < repeat[w]; k++)
-                run(j, w);
-            if (now() - t >= SAMPLE)
-                break;
+    return now() - t;
+}
+
+/* How often it must run to be timed. */
+static int repeats(job j, int w)
+{
+    int times = 1;
+    run(j, w);
+    while (timed(j, w, times) < SAMPLE)
+        times *= 2;
+    return times;
+}
+
+/* ns for one run in each way, and the ratios: ours to idiomatic, ours to tuned, the copy of tuned to tuned. */
+typedef struct { double ns[WAYS], idiomatic, tuned, copy; int rounds; } measured;
+
+/* Each round times every way of the set, in a random order, so that none always runs behind the same one. */
+static measured measure(job j, int set, double budget)
+{
+    measured m = {{0}, 0, 0, 0, 0};
+    int order[WAYS], repeat[WAYS], n = 0;
+    for (int w = 0; w < WAYS; w++)
+        if (set >> w & 1) {
+            order[n++] = w;
+            repeat[w] = repeats(j, w);
         }
-    }
     double start = now();
     for (m.rounds = 0; m.rounds < MOST_ROUNDS && (m.rounds < 9 || now() - start < budget); m.rounds++)
-        for (int k = 0; k < WAYS; k++) {
-            int w = (k + m.rounds) % WAYS;
-            double t = now();
-            for (int i = 0; i < repeat[w]; i++)
-                run(j, w);
-            samples[w][m.rounds] = (now() - t) / repeat[w];
+        for (int left = n; left != 0; left--) {
+            int k = (int)random_below((uint32_t)left), w = order[k];
+            order[k] = order[left - 1];
+            order[left - 1] = w;
+            samples[w][m.rounds] = timed(j, w, repeat[w]) / repeat[w];
         }
     m.idiomatic = median_ratio(OURS, IDIOMATIC, m.rounds);
     m.tuned = median_ratio(OURS, TUNED, m.rounds);
-    for (int w = 0; w < WAYS; w++)
-        m.ns[w] = median(samples[w], m.rounds);
+    m.copy = set >> COPY & 1 ? median_ratio(COPY, TUNED, m.rounds) : 1.0;
+    for (int k = 0; k < n; k++)
+        m.ns[order[k]] = median(samples[order[k]], m.rounds);
     return m;
 }
 
-static int differ;
+/* The instructions for a message: of all that a run takes, the caller included, with the first messages or frames of what is
+   measured. `moves` tells where they end. */
+static double instructions(job j, int w)
+{
+    size_t parts = it.parts, count = 0;
+    uint32_t in = it.in[0], length = it.length_of[0], bytes = it.bytes_of[0];
+    if (is_flexray(j)) {
+        for (it.parts = 0; it.parts < COUNTED_FRAMES; it.parts++)
+            count += it.in[it.parts];
+    } else {
+        while (count < it.count && count < COUNTED && moves[count].from < COUNTED_BYTES)
+            count++;
+        if (count < it.count) {
+            it.in[0] = (uint32_t)count;
+            it.length_of[0] = moves[count].to - moves[0].to;
+            it.bytes_of[0] = moves[count].from;
+        }
+    }
+    count_start();
+    run(j, w);
+    unsigned long counted = count_stop();
+    it.parts = parts;
+    it.in[0] = in;
+    it.length_of[0] = length;
+    it.bytes_of[0] = bytes;
+    return (double)counted / (double)count;
+}
+
+static int differ, counts;
 
 /*
  * A row of the table. All rows are measured in each of the passes, one pass behind another, so that what disturbs the machine for
  * some seconds disturbs one pass of a row and not the row.
  */
 typedef struct {
-    const char *name, *sizes;
-    char setting[32];
+    const char *name, *setting, *sizes;
+    job j;
+    uint32_t header, align;
     size_t n, count;
-    double ours[PASSES], idiomatic[PASSES], tuned[PASSES], limit[PASSES]; /* ns, the two ratios, ns of memcpy */
+    double ns[WAYS][PASSES], idiomatic[PASSES], tuned[PASSES], copy[PASSES];
+    double ours_counted, tuned_counted;
 } line;
 
 static line lines[MOST_LINES];
 static int line_count, pass;
 
-static void row(job j, const char *name, const char *setting, const char *sizes, double budget)
+static void row(job j, const char *name, uint32_t header, const char *packing, uint32_t align, const char *sizes, double budget)
 {
-    if (line_count == MOST_LINES || (pass == 0 && !agree(j))) {
-        printf("%s, %s, %s: the answers differ\n", name, setting, sizes);
+    if (line_count == MOST_LINES || !agree(j)) {
+        printf("%s, %u %s, %s: the answers differ\n", name, header, packing, sizes);
         differ = 1;
         return;
     }
-    measured m = measure(j, budget / PASSES);
+    make_moves(is_flexray(j));
     line *l = &lines[line_count++];
     l->name = name;
+    l->setting = packing;
     l->sizes = sizes;
-    for (int k = 0; k == 0 || setting[k - 1] != 0; k++)
-        l->setting[k] = setting[k];
+    l->j = j;
+    l->header = header;
+    l->align = align;
     l->n = it.n;
     l->count = it.count;
-    l->ours[pass] = m.ns[OURS];
+    measured m = measure(j, is_read(j) ? READS : WRITES, budget / PASSES);
+    for (int w = 0; w < WAYS; w++)
+        l->ns[w][pass] = m.ns[w];
     l->idiomatic[pass] = m.idiomatic;
     l->tuned[pass] = m.tuned;
-    l->limit[pass] = m.ns[MEMCPY];
+    l->copy[pass] = m.copy;
+    if (pass == 0 && counts) {
+        l->ours_counted = instructions(j, OURS);
+        l->tuned_counted = instructions(j, TUNED);
+    }
+}
+
+/* Each row's ratio of the copy to tuned, sorted. */
+static double copies[MOST_LINES];
+
+/* How exact a ratio is: 95 of 100 rows of the copy are not further from 1, above or below, than this factor. */
+static double resolution(void)
+{
+    double apart[MOST_LINES];
+    for (int i = 0; i < line_count; i++) {
+        copies[i] = median(lines[i].copy, PASSES);
+        apart[i] = copies[i] < 1.0 ? 1.0 / copies[i] : copies[i];
+    }
+    sort(copies, line_count);
+    sort(apart, line_count);
+    return apart[line_count - 1 - line_count / 20];
+}
+
+static void print_line(line *l, double most)
+{
+    double messages = (double)l->count, idiomatic = median(l->idiomatic, PASSES), tuned = median(l->tuned, PASSES);
+    printf("| %s | %u%s%s | %u | %s | %lu | %lu | %.2f | %.2f%s | %.2f%s | %.2f | ", l->name, l->header, *l->setting ? " " : "",
+           l->setting, l->align, l->sizes, (unsigned long)l->n, (unsigned long)l->count, median(l->ns[OURS], PASSES) / messages,
+           idiomatic, idiomatic > 0.8 * most ? " *" : "", tuned, tuned > most ? " *" : "", median(l->copy, PASSES));
+    if (counts)
+        printf("%.1f | %.1f | ", l->ours_counted, l->tuned_counted);
+    printf("%.2f | ", median(l->ns[MEMCPY], PASSES) / messages);
+    if (is_read(l->j))
+        printf("|\n");
+    else
+        printf("%.2f |\n", median(l->ns[LEAST], PASSES) / messages);
 }
 
 static void print_lines(void)
 {
-    int misses_idiomatic = 0, misses_tuned = 0;
-    printf("| what | header, packing | packet bytes | bytes | messages | ours, ns/message | ours/idiomatic | ours/tuned "
-           "| memcpy, ns/message |\n|---|---|---|---|---|---|---|---|---|\n");
+    int over[4] = {0, 0, 0, 0}, edge = line_count / 20;
+    double most = resolution();
+    printf("| what | header, packing | align | packet bytes | bytes | messages | ours, ns/message | ours/idiomatic | ours/tuned "
+           "| copy/tuned |%s memcpy, ns/message | memcpy and memset, ns/message |\n",
+           counts ? " ours, instructions/message | tuned, instructions/message |" : "");
+    printf("|---|---|---|---|---|---|---|---|---|---|%s---|---|\n", counts ? "---|---|" : "");
     for (int i = 0; i < line_count; i++) {
-        line *l = &lines[i];
-        double messages = (double)l->count, idiomatic = median(l->idiomatic, PASSES), tuned = median(l->tuned, PASSES);
-        misses_idiomatic += idiomatic > 0.8;
-        misses_tuned += tuned > 1.0;
-        printf("| %s | %s | %s | %lu | %lu | %.2f | %.2f%s | %.2f%s | %.2f |\n", l->name, l->setting, l->sizes, (unsigned long)l->n,
-               (unsigned long)l->count, median(l->ours, PASSES) / messages, idiomatic, idiomatic > 0.8 ? " *" : "", tuned,
-               tuned > 1.0 ? " *" : "", median(l->limit, PASSES) / messages);
+        double idiomatic = median(lines[i].idiomatic, PASSES), tuned = median(lines[i].tuned, PASSES);
+        over[0] += idiomatic > 0.8;
+        over[1] += idiomatic > 0.8 * most;
+        over[2] += tuned > 1.0;
+        over[3] += tuned > most;
+        print_line(&lines[i], most);
     }
-    printf("\n%d rows; over 0.8 of idiomatic: %d; over 1.0 of tuned: %d (each marked *)\n", line_count, misses_idiomatic,
-           misses_tuned);
+    printf("\n%d rows. copy/tuned: %.3f to %.3f, nine tenths of the rows %.3f to %.3f.\n", line_count, copies[0],
+           copies[line_count - 1], copies[edge], copies[line_count - 1 - edge]);
+    printf("Resolution: 95 of 100 rows of the copy are between %.3f and %.3f. A ratio between them is no difference.\n", 1.0 / most,
+           most);
+    printf("Over 0.8 of idiomatic: %d; beyond the resolution, over %.3f: %d.\n", over[0], 0.8 * most, over[1]);
+    printf("Over 1.0 of tuned: %d; beyond the resolution, over %.3f: %d.\n", over[2], most, over[3]);
+    printf("A star marks what is beyond the resolution.\n");
+    if (!counts)
+        printf("Instructions could not be counted here.\n");
 }
 
 static const char *const packings[3] = {"single", "multiple", "streaming"};
 
-static void usb_rows(job j, const char *name, double budget)
+/* One row: the packet lengths are those of a class, 0 to 2; the longest class hangs on LEN and packing. */
+static void usb_row(job j, const char *name, uint32_t header, uint32_t align, uint32_t packing, int size, double budget)
 {
-    for (uint32_t header = 1; header <= 4; header += 3)
-        for (uint32_t packing = SINGLE; packing <= STREAMING; packing++)
-            for (int size = 0; size < 3; size++) {
-                xcp_usb_setting s = {header, packing, 4, 512, header == 1 ? 255 : 65535, 0};
-                uint32_t least = 1, most = size == 0 ? 8 : 64;
-                const char *sizes = size == 0 ? "1-8" : "1-64";
-                if (size == 2 && header == 1) {
-                    least = 200, most = 255, sizes = "200-255";
-                } else if (size == 2 && packing == STREAMING) {
-                    least = 1000, most = 60000, sizes = "1000-60000";
-                } else if (size == 2) {
-                    s.data_packet = 1024;
-                    least = 1000, most = 1020, sizes = "1000-1020";
-                }
-                seed = 88172645463325252u + header * 100 + packing * 10 + (uint32_t)size;
-                if (!make_usb(s, least, most, j == USB_READ)) {
-                    printf("%s: no transfer was made\n", sizes);
-                    differ = 1;
-                    continue;
-                }
-                char setting[32];
-                int k = 0;
-                setting[k++] = (char)('0' + header);
-                setting[k++] = ' ';
-                for (const char *p = packings[packing]; *p; p++)
-                    setting[k++] = *p;
-                setting[k] = 0;
-                row(j, name, setting, sizes, budget);
-            }
+    uint32_t wide = header > 2, least = 1, most = size == 0 ? 8 : 64;
+    xcp_usb_setting s = {header, packing, align, 512, wide ? 65535 : 255, 0};
+    const char *sizes = size == 0 ? "1-8" : "1-64";
+    if (size == 2 && !wide) {
+        least = 200, most = 255, sizes = "200-255";
+    } else if (size == 2 && packing == STREAMING) {
+        least = 1000, most = 60000, sizes = "1000-60000";
+    } else if (size == 2) {
+        s.data_packet = 1024;
+        least = 1000, most = 1020, sizes = "1000-1020";
+    }
+    seed = 88172645463325252u + align * 1000 + header * 100 + packing * 10 + (uint32_t)size;
+    if (!make_usb(s, least, most, j == USB_READ)) {
+        printf("%s: no transfer was made\n", sizes);
+        differ = 1;
+        return;
+    }
+    row(j, name, header, packings[packing], align, sizes, budget);
 }
 
-static void flexray_rows(double budget)
+static void usb_rows(job j, const char *name, double budget)
+{
+    static const uint32_t pairs[5][2] = {{0, 1}, {1, 4}, {4, 4}, {4, 1}, {5, 8}}; /* header, alignment */
+    for (int pair = 0; pair < 5; pair++)
+        for (uint32_t packing = SINGLE; packing <= STREAMING; packing++)
+            for (int size = 0; size < 3; size++)
+                usb_row(j, name, pairs[pair][0], pairs[pair][1], packing, size, budget);
+}
+
+static void flexray_rows(job j, const char *name, double budget)
 {
     static const char *const sizes[3] = {"1-8", "1-64", "200-251"};
     static const uint32_t from[3] = {1, 1, 200}, to[3] = {8, 64, 251};
-    xcp_flexray_setting s = {7, 0, FRAME, 7, 1};
-    for (int j = FLEXRAY_READ; j <= FLEXRAY_WRITE; j++)
+    static const uint32_t shapes[2][3] = {{7, 1, 3}, {8, 4, 4}}; /* header, alignment, bytes of the header */
+    for (int shape = 0; shape < 2; shape++)
         for (int size = 0; size < 3; size++) {
+            xcp_flexray_setting s = {7, 0, FRAME, shapes[shape][0], shapes[shape][1]};
             seed = 362436069u + (uint32_t)size;
-            if (!make_flexray(s, from[size], to[size])) {
+            if (!make_flexray(s, shapes[shape][2], from[size], to[size])) {
                 printf("FlexRay: no frame was made\n");
                 differ = 1;
                 continue;
             }
-            row((job)j, j == FLEXRAY_READ ? "FlexRay read" : "FlexRay write", "7", sizes[size], budget);
+            row(j, name, s.header, "", s.align, sizes[size], budget);
         }
 }
 
@@ -572,8 +772,8 @@ static void lengths_table(double budget)
             }
             bytes[line] = (double)it.n / (double)parts;
             messages[line] = (double)it.count / (double)parts;
-            reads[line][turn] = measure(USB_READ, budget / TURNS).ns[OURS] / (double)parts;
-            writes[line][turn] = measure(USB_WRITE, budget / TURNS).ns[OURS] / (double)parts;
+            reads[line][turn] = measure(USB_READ, BASIC, budget / TURNS).ns[OURS] / (double)parts;
+            writes[line][turn] = measure(USB_WRITE, BASIC, budget / TURNS).ns[OURS] / (double)parts;
         }
     printf("\n| transfer, bytes | messages | read, us | read, ns/message | write, us | write, ns/message |\n|---|---|---|---|---|---|\n");
     for (int line = 0; line < LINES; line++) {
@@ -584,7 +784,7 @@ static void lengths_table(double budget)
 }
 
 /* A row of the table of texts: ns in each way, and the ratios. */
-typedef struct { size_t words; double ns[MEMCPY][PASSES], of_reader[PASSES], of_tokenizer[PASSES]; } text_line;
+typedef struct { size_t words; double ns[3][PASSES], of_reader[PASSES], of_tokenizer[PASSES]; } text_line;
 
 static text_line text_lines[TEXTS];
 static const char *const text_names[TEXTS] = {"keywords", "comments", "nested"};
@@ -602,8 +802,8 @@ static void text_rows(double budget)
             differ = 1;
             return;
         }
-        measured m = measure(USB_SETTINGS, budget / PASSES);
-        for (int w = 0; w < MEMCPY; w++)
+        measured m = measure(USB_SETTINGS, BASIC, budget / PASSES);
+        for (int w = 0; w < 3; w++)
             l->ns[w][pass] = m.ns[w];
         l->of_reader[pass] = m.idiomatic;
         l->of_tokenizer[pass] = m.tuned;
@@ -632,11 +832,11 @@ int main(int argc, char **argv)
 {
     (void)argv;
     int emulated = argc > 1;
-    double budget = emulated ? 0.5e9 : 1.2e9, start = now();
+    double budget = emulated ? 0.3e9 : 1.4e9, start = now();
 
-    random_bytes(packets, TRANSFER);
-    for (size_t i = 0; i < TRANSFER; i += 3)
-        packets[i] |= 0xF8; /* so that every kind is frequent */
+    random_bytes(packet_pages, sizeof packet_pages);
+    for (size_t i = 0; i < sizeof packet_pages; i += 3)
+        packet_pages[i] |= 0xF8; /* so that every kind is frequent */
     unsigned refused, cases = emulated ? 3000 : 30000;
     unsigned bad = differing(cases, &refused);
     printf("%u random writes and %u random reads, %u of them refused: %u differ\n", cases, cases, refused, bad);
@@ -645,17 +845,23 @@ int main(int argc, char **argv)
     if (bad != 0 || bad_texts != 0)
         return 1;
 
-    random_bytes(packets, TRANSFER);
+    counts = !emulated && count_begin();
+    random_bytes(packet_pages, sizeof packet_pages);
     for (pass = 0; pass < PASSES && !differ; pass++) {
         line_count = 0;
+        place_arrays(pass);
         usb_rows(USB_READ, "USB read", budget);
         usb_rows(USB_WRITE, "USB write", budget);
-        flexray_rows(budget);
+        flexray_rows(FLEXRAY_READ, "FlexRay read", budget);
+        flexray_rows(FLEXRAY_WRITE, "FlexRay write", budget);
+        place_arrays(0);
         text_rows(budget);
     }
-    print_lines();
-    print_texts();
-    lengths_table(budget);
+    if (!differ) {
+        print_lines();
+        print_texts();
+        lengths_table(budget);
+    }
     printf("\n%.0f seconds\n", (now() - start) / 1e9);
     return differ;
 }

@@ -1,4 +1,5 @@
-/* What the library is measured against: two C implementations, and for texts a plain one. Their rules are those of plumagemud.h. */
+/* What the library is measured against: two C implementations, one of them twice, and for texts a plain one. Their rules are those of
+   plumagemud.h. */
 #ifndef BENCH_H
 #define BENCH_H
 
@@ -16,6 +17,7 @@
 
 IMPLEMENTATION(idiomatic)
 IMPLEMENTATION(tuned)
+IMPLEMENTATION(copy)
 
 /* The longest text, which is the length of those that are measured. */
 enum { TEXT = 16384 };
@@ -27,5 +29,10 @@ void make_text(text_kind kind, uint8_t *to);
 /* The number of words before the text's end, or before a comment or a string that is not closed. */
 size_t plain_words(const uint8_t *text, size_t n);
 xcp_settings plain_usb_settings(const uint8_t *text, size_t n, uint32_t longest);
+
+/* Counting instructions. count_begin gives 0 where they cannot be counted; count_stop gives those since count_start. */
+int count_begin(void);
+void count_start(void);
+unsigned long count_stop(void);
 
 #endif

@@ -1,4 +1,5 @@
-/* The rules of include/plumagemud.h in plain C: a table of headers, one function for each question, two passes. */
+/* The rules of include/plumagemud.h in plain C: a table of headers, one function for each question, two passes. A place is carried
+   with the end of its data packet, so that a division stands only where a message runs over several of them. */
 #include <string.h>
 
 #include "bench.h"
@@ -107,28 +108,40 @@ static int usb_sound(const xcp_usb_setting *s)
     return s->longest >= 8 && s->longest <= (usb_headers[s->header].len_width == 2 ? 65535u : 255u);
 }
 
-/* A message, or with length 0 a rest; and the place behind it. */
-typedef struct { uint32_t length; size_t next; } usb_item;
+/* A place, and the end of its data packet. */
+typedef struct { size_t q, end; } usb_place;
 
-/* What stands at q: 0 and the item, or the number of a refusal. */
-static uint32_t usb_see(const xcp_usb_setting *s, const usb_header *h, const uint8_t *t, size_t n, size_t q, usb_item *item)
+/* From one place to one behind it. */
+static usb_place usb_move(const xcp_usb_setting *s, usb_place p, size_t q)
 {
-    size_t room = s->data_packet - q % s->data_packet;
-    size_t left = n - q;
-    size_t space = room < left ? room : left;
-    uint32_t length = space < h->size ? 0 : get(t + q, h->len_width);
+    p.q = q;
+    if (p.end <= q)
+        p.end += s->data_packet;
+    if (p.end <= q) /* over several data packets */
+        p.end = q - q % s->data_packet + s->data_packet;
+    return p;
+}
+
+/* A message, or with length 0 a rest; and the place behind it. */
+typedef struct { uint32_t length; usb_place next; } usb_item;
+
+/* What stands at p: 0 and the item, or the number of a refusal. */
+static uint32_t usb_see(const xcp_usb_setting *s, const usb_header *h, const uint8_t *t, size_t n, usb_place p, usb_item *item)
+{
+    size_t stop = p.end < n ? p.end : n;
+    uint32_t length = stop - p.q < h->size ? 0 : get(t + p.q, h->len_width);
 
     item->length = length;
-    item->next = q + space;
+    item->next = usb_move(s, p, stop);
     if (length == 0)
         return s->packing == SINGLE ? 6 : 0;
     if (length > s->longest)
         return 3;
-    size_t whole = round_up(h->size + length, s->align);
-    if (whole > (s->packing == STREAMING ? left : space))
+    size_t behind = p.q + round_up(h->size + length, s->align);
+    if (behind > (s->packing == STREAMING ? n : stop))
         return 5;
     if (s->packing != SINGLE)
-        item->next = q + whole;
+        item->next = usb_move(s, p, behind);
     return 0;
 }
 
@@ -145,10 +158,10 @@ xcp_read idiomatic_usb_read(xcp_usb_setting s, const uint8_t *t, size_t n, xcp_c
 
     usb_item item;
     size_t count = 0;
-    for (size_t q = 0; q < n; q = item.next) {
-        uint32_t number = usb_see(&s, h, t, n, q, &item);
+    for (usb_place p = {0, s.data_packet}; p.q < n; p = item.next) {
+        uint32_t number = usb_see(&s, h, t, n, p, &item);
         if (number != 0)
-            return not_read(number, q, c);
+            return not_read(number, p.q, c);
         if (item.length != 0)
             count++;
     }
@@ -156,28 +169,27 @@ xcp_read idiomatic_usb_read(xcp_usb_setting s, const uint8_t *t, size_t n, xcp_c
         return not_read(4, 0, c);
 
     uint32_t *row = rows;
-    for (size_t q = 0; q < n; q = item.next) {
-        usb_see(&s, h, t, n, q, &item);
+    for (usb_place p = {0, s.data_packet}; p.q < n; p = item.next) {
+        usb_see(&s, h, t, n, p, &item);
         if (item.length == 0)
             continue;
         uint32_t ctr = 0, gap = 0;
         if (h->ctr_width != 0) {
-            ctr = get(t + q + h->ctr_at, h->ctr_width);
+            ctr = get(t + p.q + h->ctr_at, h->ctr_width);
             gap = advance(&c, ctr, mask);
         }
-        put_row(row, q + h->size, item.length, ctr, gap, kind(s.direction, t[q + h->size]));
+        put_row(row, p.q + h->size, item.length, ctr, gap, kind(s.direction, t[p.q + h->size]));
         row += 5;
     }
     xcp_read r = {0, (uint32_t)count, c};
     return r;
 }
 
-/* The first place from q on where a message of so many bytes may stand. */
-static size_t usb_start(const xcp_usb_setting *s, const usb_header *h, size_t q, size_t whole)
+/* The first place from p on where a message of so many bytes may stand. */
+static usb_place usb_start(const xcp_usb_setting *s, const usb_header *h, usb_place p, size_t whole)
 {
-    size_t room = s->data_packet - q % s->data_packet;
     size_t need = s->packing == SINGLE ? s->data_packet : s->packing == MULTIPLE ? whole : h->size;
-    return need <= room ? q : q + room;
+    return need <= p.end - p.q ? p : usb_move(s, p, p.end);
 }
 
 static void usb_put_rest(const xcp_usb_setting *s, const usb_header *h, uint8_t *out, size_t n, uint8_t fill)
@@ -199,29 +211,30 @@ xcp_written idiomatic_usb_write(xcp_usb_setting s, const uint8_t *packets, size_
     if (count > MOST_LENGTHS || !sum_is(lengths, count, n))
         return not_written(2, 0, first);
 
-    size_t end = 0;
+    usb_place p = {0, s.data_packet};
     for (size_t i = 0; i < count; i++) {
         if (lengths[i] == 0 || lengths[i] > s.longest)
             return not_written(3, i, first);
         size_t whole = round_up(h->size + lengths[i], s.align);
         if (s.packing != STREAMING && whole > s.data_packet)
             return not_written(3, i, first);
-        end = usb_start(&s, h, end, whole) + whole;
+        p = usb_start(&s, h, p, whole);
+        p = usb_move(&s, p, p.q + whole);
     }
-    size_t total = end;
-    if (fill_up && end % s.data_packet != 0)
-        total += s.data_packet - end % s.data_packet;
+    size_t total = p.q;
+    if (fill_up && p.end - p.q < s.data_packet)
+        total = p.end;
     if (total > room || total > LONGEST_TRANSFER)
         return not_written(4, 0, first);
 
     uint32_t ctr = first;
-    size_t q = 0;
+    p = (usb_place){0, s.data_packet};
     for (size_t i = 0; i < count; i++) {
         size_t whole = round_up(h->size + lengths[i], s.align);
-        size_t start = usb_start(&s, h, q, whole);
-        usb_put_rest(&s, h, out + q, start - q, fill);
+        usb_place start = usb_start(&s, h, p, whole);
+        usb_put_rest(&s, h, out + p.q, start.q - p.q, fill);
 
-        uint8_t *message = out + start;
+        uint8_t *message = out + start.q;
         memset(message, fill, h->size);
         put(message, h->len_width, lengths[i]);
         if (h->ctr_width != 0) {
@@ -231,10 +244,10 @@ xcp_written idiomatic_usb_write(xcp_usb_setting s, const uint8_t *packets, size_
         memcpy(message + h->size, packets, lengths[i]);
         memset(message + h->size + lengths[i], fill, whole - h->size - lengths[i]);
         packets += lengths[i];
-        q = start + whole;
+        p = usb_move(&s, start, start.q + whole);
     }
-    if (total > q)
-        usb_put_rest(&s, h, out + q, total - q, fill);
+    if (total > p.q)
+        usb_put_rest(&s, h, out + p.q, total - p.q, fill);
     xcp_written r = {0, (uint32_t)total, ctr};
     return r;
 }
