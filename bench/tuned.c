@@ -3,7 +3,8 @@
  * decide is a constant. A second pass tests no rule again. The rest is about what a processor waits for:
  * - The place of a message hangs on the LEN before it. Nothing else stands in that chain, and a data packet's end cuts it: the next
  *   place is the carried end, whatever LEN was read last.
- * - A branch that hangs on a length is often guessed wrong. So a tail is filled by one wide store, and the packet goes over it.
+ * - A branch that hangs on a length is often guessed wrong. So a tail is filled by one wide store; and as long as more packets
+ *   follow, a short packet is copied by a block that is longer than it, and what is too much is written over.
  */
 #include <string.h>
 
@@ -18,6 +19,7 @@
 
 enum { SINGLE, MULTIPLE, STREAMING };
 enum { LONGEST_TRANSFER = 262144, MOST_LENGTHS = 4096, LONGEST_FRAME = 254 };
+enum { SMALL = 16, BLOCK = 64 }; /* bytes of two blocks */
 
 typedef unsigned long long word;
 
@@ -34,7 +36,15 @@ INLINE uint32_t kind(uint32_t direction, uint32_t first)
     return direction ? master : slave;
 }
 
-/* Copies n bytes, at least 1. */
+/* n is a constant: loads, then stores. */
+INLINE void copy_block(uint8_t *to, const uint8_t *from, size_t n)
+{
+    uint8_t block[BLOCK];
+    memcpy(block, from, n);
+    memcpy(to, block, n);
+}
+
+/* Copies n bytes, at least 1, and no more. */
 INLINE void copy(uint8_t *to, const uint8_t *from, size_t n)
 {
     if (n > 32) {
@@ -414,9 +424,14 @@ INLINE void put_header(uint8_t *to, size_t len, uint32_t ctr, uint8_t fill, uint
     }
 }
 
-INLINE void put_rest(uint8_t *to, size_t n, uint8_t fill, uint32_t header, uint32_t packing)
+/* A rest of n bytes. `more`: at least BLOCK bytes follow, which are written later. */
+INLINE void put_rest(uint8_t *to, size_t n, const uint8_t *fills, int more, uint32_t header, uint32_t packing)
 {
-    memset(to, fill, n);
+    if (more && n <= 2 * SMALL)
+        for (size_t k = 0; k < 2 * SMALL; k += SMALL)
+            memcpy(to + k, fills, SMALL);
+    else
+        memset(to, fills[0], n);
     if (packing != SINGLE && n >= header_size(header)) {
         to[0] = 0;
         if (header >= 3)
@@ -428,18 +443,18 @@ INLINE void put_rest(uint8_t *to, size_t n, uint8_t fill, uint32_t header, uint3
 typedef struct { uint8_t *to, *end; } place;
 
 /* The place of the next message, behind a rest if there is one. */
-INLINE place put_before(place p, size_t whole, uint32_t m, uint8_t fill, uint32_t header, uint32_t packing,
+INLINE place put_before(place p, size_t whole, uint32_t m, const uint8_t *fills, int more, uint32_t header, uint32_t packing,
                         size_t align)
 {
     if (packing == MULTIPLE && (size_t)(p.end - p.to) < whole) {
-        put_rest(p.to, (size_t)(p.end - p.to), fill, header, packing);
+        put_rest(p.to, (size_t)(p.end - p.to), fills, more, header, packing);
         p.to = p.end;
         p.end += m;
     }
     if (packing == STREAMING && !always_fits(header, align))
         while (UNLIKELY(p.to + header_size(header) > p.end)) {
             if (p.to < p.end) {
-                put_rest(p.to, (size_t)(p.end - p.to), fill, header, packing);
+                put_rest(p.to, (size_t)(p.end - p.to), fills, more, header, packing);
                 p.to = p.end;
             }
             p.end += m;
@@ -449,16 +464,39 @@ INLINE place put_before(place p, size_t whole, uint32_t m, uint8_t fill, uint32_
     return p;
 }
 
-INLINE uint32_t put_messages(const uint8_t *packets, const uint32_t *lengths, size_t count, uint32_t ctr, uint8_t fill,
+/* As long as more than BLOCK bytes of packets are left, a block from there stays inside, read and written; and behind every message
+   but the last there are as many bytes as the alignment has. */
+INLINE uint32_t put_messages(const uint8_t *packets, size_t left, const uint32_t *lengths, size_t count, uint32_t ctr, uint8_t fill,
                              uint8_t *out, uint32_t m, uint32_t header, uint32_t packing, size_t align)
 {
     const size_t size = header_size(header);
-    uint8_t fills[8];
-    memset(fills, fill, 8);
+    uint8_t fills[SMALL];
+    memset(fills, fill, SMALL);
     place p = {out, out + m};
-    for (size_t i = 0; i < count; i++, ctr++) {
+    size_t i = 0;
+    for (; left > BLOCK; i++, ctr++) {
         size_t len = lengths[i], whole = behind(0, len, header, align);
-        p = put_before(p, whole, m, fill, header, packing, align);
+        if (len > BLOCK && len == left)
+            break;
+        p = put_before(p, whole, m, fills, 1, header, packing, align);
+        put_header(p.to, len, ctr, fill, header);
+        if (len <= SMALL)
+            copy_block(p.to + size, packets, SMALL);
+        else if (len <= BLOCK)
+            copy_block(p.to + size, packets, BLOCK);
+        else
+            memcpy(p.to + size, packets, len);
+        if (packing == SINGLE)
+            memset(p.to + size + len, fill, m - size - len);
+        else if (align > 1)
+            memcpy(p.to + size + len, fills, align);
+        packets += len;
+        left -= len;
+        p.to += packing == SINGLE ? m : whole;
+    }
+    for (; i < count; i++, ctr++) {
+        size_t len = lengths[i], whole = behind(0, len, header, align);
+        p = put_before(p, whole, m, fills, 0, header, packing, align);
         size_t stop = packing == SINGLE && i + 1 < count ? m : whole;
         if (packing != SINGLE && align > 1)
             memcpy(p.to + whole - align, fills, align);
@@ -501,9 +539,9 @@ INLINE xcp_written usb_write(const xcp_usb_setting *s, const uint8_t *packets, s
     if (count == 0)
         return not_written(0, 0, first);
 
-    uint32_t ctr = put_messages(packets, lengths, count, first, fill, out, m, header, packing, align);
+    uint32_t ctr = put_messages(packets, n, lengths, count, first, fill, out, m, header, packing, align);
     if (total > z.total)
-        put_rest(out + z.total, total - z.total, fill, header, packing);
+        put_rest(out + z.total, total - z.total, &fill, 0, header, packing);
     return not_written(0, total, has_ctr(header) ? ctr & ctr_mask(header) : first);
 }
 
@@ -693,13 +731,28 @@ INLINE sized size_few(const uint32_t *lengths, size_t count, size_t ceiling, siz
 }
 
 /* Packets, each with its LEN before it, into a frame of `total` bytes. */
-INLINE void put_packets(const uint8_t *packets, const uint32_t *lengths, size_t count, uint8_t fill, uint8_t *out, size_t total,
-                        size_t align, size_t size)
+INLINE void put_packets(const uint8_t *packets, size_t left, const uint32_t *lengths, size_t count, uint8_t fill, uint8_t *out,
+                        size_t total, size_t align, size_t size)
 {
     uint8_t fills[8];
     memset(fills, fill, 8);
-    size_t at = size;
-    for (size_t i = 0; i < count; i++) {
+    size_t i = 0, at = size;
+    for (; left > SMALL + align; i++) {
+        size_t len = lengths[i];
+        if (len <= SMALL)
+            copy_block(out + at, packets, SMALL);
+        else if (len <= BLOCK && left > BLOCK + align)
+            copy_block(out + at, packets, BLOCK);
+        else
+            break;
+        out[at - 1] = (uint8_t)len;
+        if (align > 1)
+            memcpy(out + at + len, fills, align);
+        packets += len;
+        left -= len;
+        at = (at + len + align) & ~(align - 1);
+    }
+    for (; i < count; i++) {
         size_t len = lengths[i], next = (at + len + align) & ~(align - 1);
         if (align > 1 && next <= total)
             memcpy(out + next - align, fills, align);
@@ -736,7 +789,7 @@ INLINE xcp_written flexray_write(const xcp_flexray_setting *s, const uint8_t *pa
     if (ctr)
         out[1] = (uint8_t)first;
     if (len)
-        put_packets(packets, lengths, count, fill, out, total, align, size);
+        put_packets(packets, n, lengths, count, fill, out, total, align, size);
     else
         copy(out + size, packets, n);
     return not_written(0, total, ctr ? (first + 1) & 0xFF : first);
