@@ -5,6 +5,7 @@
  *   place is the carried end, whatever LEN was read last.
  * - A branch that hangs on a length is often guessed wrong. So a tail is filled by one wide store; and as long as more packets
  *   follow, a short packet is copied by a block that is longer than it, and what is too much is written over.
+ * - With a LEN byte the next headers are near, so the lines ahead are fetched before it is known which of them are needed.
  */
 #include <string.h>
 
@@ -19,7 +20,7 @@
 
 enum { SINGLE, MULTIPLE, STREAMING };
 enum { LONGEST_TRANSFER = 262144, MOST_LENGTHS = 4096, LONGEST_FRAME = 254 };
-enum { SMALL = 16, BLOCK = 64 }; /* bytes of two blocks */
+enum { SMALL = 16, BLOCK = 64, AHEAD = 512 }; /* bytes of two blocks, and how far ahead lines are fetched */
 
 typedef unsigned long long word;
 
@@ -151,6 +152,13 @@ INLINE size_t end_by(word inverse, size_t q, uint32_t m)
     return ((q * inverse >> 32) + 1) * m;
 }
 
+INLINE void fetch_ahead(const uint8_t *at, size_t len, uint32_t header)
+{
+    if (header < 3 && len > BLOCK)
+        for (size_t k = 0; k < 256; k += 64)
+            __builtin_prefetch(at + AHEAD + k);
+}
+
 /* number 0: value messages; else refused at value. */
 typedef struct { uint32_t number; size_t value; } judged;
 
@@ -199,6 +207,7 @@ INLINE judged judge_fitting(const uint8_t *t, size_t n, uint32_t m, size_t longe
         if (UNLIKELY(next > n))
             return judged_as(5, q);
         count++;
+        fetch_ahead(t + next, len, header);
         q = next;
     }
     return judged_as(0, count);
@@ -273,6 +282,7 @@ INLINE uint32_t fill_fitting(uint32_t *row, const uint32_t *last, const uint8_t 
         if (row == last)
             return expected;
         q = behind(q, len, header, align);
+        fetch_ahead(t + q, len, header);
     }
 }
 
@@ -623,7 +633,8 @@ INLINE void put_packet_row(uint32_t *row, const uint8_t *f, size_t at, size_t le
     row[4] = kind(direction, f[at]);
 }
 
-INLINE judged judge_frame(const uint8_t *f, size_t n, size_t align, size_t size)
+/* The packets of a frame, judged, and their rows unless `row` is NULL. */
+INLINE judged judge_frame(const uint8_t *f, size_t n, uint32_t *row, uint32_t direction, size_t align, size_t size)
 {
     size_t count = 0;
     for (size_t at = size, len; at <= n; at = next_at(at, len, align)) {
@@ -632,6 +643,10 @@ INLINE judged judge_frame(const uint8_t *f, size_t n, size_t align, size_t size)
             break;
         if (UNLIKELY(at + len > n))
             return judged_as(5, count == 0 ? 0 : at - 1);
+        if (row) {
+            put_packet_row(row, f, at, len, direction);
+            row += 5;
+        }
         count++;
     }
     return judged_as(count == 0 ? 6 : 0, count);
@@ -648,6 +663,30 @@ INLINE void fill_frame(uint32_t *row, size_t count, const uint8_t *f, uint32_t d
     }
 }
 
+/* Judges and gives rows. A frame that starts with a long packet has few, and is gone over twice. Else the rows are made aside, and
+   copied once all is judged. */
+INLINE judged read_packets(const uint8_t *f, size_t n, uint32_t *rows, size_t numbers, uint32_t direction, size_t align,
+                           size_t size)
+{
+    if (f[size - 1] >= BLOCK) {
+        judged j = judge_frame(f, n, NULL, direction, align, size);
+        if (UNLIKELY(j.number != 0))
+            return j;
+        if (numbers < 5 * j.value)
+            return judged_as(4, 0);
+        fill_frame(rows, j.value, f, direction, align, size);
+        return j;
+    }
+    uint32_t aside[5 * (LONGEST_FRAME / 2)];
+    judged j = judge_frame(f, n, aside, direction, align, size);
+    if (UNLIKELY(j.number != 0))
+        return j;
+    if (numbers < 5 * j.value)
+        return judged_as(4, 0);
+    memcpy(rows, aside, 5 * j.value * sizeof *rows);
+    return j;
+}
+
 INLINE xcp_read flexray_read(const xcp_flexray_setting *s, const uint8_t *f, size_t n, xcp_counter c, uint32_t *rows,
                              size_t numbers, size_t align, size_t size, int ctr, int len)
 {
@@ -660,16 +699,12 @@ INLINE xcp_read flexray_read(const xcp_flexray_setting *s, const uint8_t *f, siz
     if (f[0] != s->node)
         return not_read(7, 0, c);
 
-    judged j = judged_as(0, 1);
+    judged j = judged_as(numbers < 5 ? 4 : 0, numbers < 5 ? 0 : 1);
     if (len)
-        j = judge_frame(f, n, align, size);
+        j = read_packets(f, n, rows, numbers, s->direction, align, size);
     if (UNLIKELY(j.number != 0))
         return not_read(j.number, j.value, c);
-    if (numbers < 5 * j.value)
-        return not_read(4, 0, c);
-    if (len)
-        fill_frame(rows, j.value, f, s->direction, align, size);
-    else
+    if (!len)
         put_packet_row(rows, f, size, n - size, s->direction);
     if (ctr) {
         rows[2] = f[1];
