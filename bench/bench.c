@@ -699,7 +699,10 @@ static void print_lines(void)
     printf("Over 0.8 of idiomatic: %d; beyond the resolution, over %.3f: %d.\n", over[0], 0.8 * most, over[1]);
     printf("Over 1.0 of tuned: %d; beyond the resolution, over %.3f: %d.\n", over[2], most, over[3]);
     printf("A star marks what is beyond the resolution.\n");
-    if (!counts)
+    if (counts)
+        printf("Instructions: all of a call, with its caller and the C library, for up to %d messages or %d frames; for one message.\n",
+               COUNTED, COUNTED_FRAMES);
+    else
         printf("Instructions could not be counted here.\n");
 }
 
@@ -832,7 +835,7 @@ int main(int argc, char **argv)
 {
     (void)argv;
     int emulated = argc > 1;
-    double budget = emulated ? 0.3e9 : 1.4e9, start = now();
+    double budget = emulated ? 0.3e9 : 1.2e9, start = now();
 
     random_bytes(packet_pages, sizeof packet_pages);
     for (size_t i = 0; i < sizeof packet_pages; i += 3)

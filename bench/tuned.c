@@ -152,6 +152,7 @@ INLINE size_t end_by(word inverse, size_t q, uint32_t m)
     return ((q * inverse >> 32) + 1) * m;
 }
 
+/* Fetches the lines in which the next headers may stand. */
 INLINE void fetch_ahead(const uint8_t *at, size_t len, uint32_t header)
 {
     if (header < 3 && len > BLOCK)
