@@ -676,6 +676,20 @@ static void print_line(line *l, double most)
         printf("%.2f |\n", median(l->ns[LEAST], PASSES) / messages);
 }
 
+/* How far the passes of a row are apart. The copy does not show it: what else the machine does slows down another program more, or less,
+   than tuned. */
+static void print_passes(void)
+{
+    double apart[MOST_LINES];
+    for (int i = 0; i < line_count; i++) {
+        sort(lines[i].tuned, PASSES);
+        apart[i] = lines[i].tuned[PASSES - 1] / lines[i].tuned[0];
+    }
+    double middle = median(apart, line_count);
+    printf("Between the passes of a row ours/tuned changes by a factor of %.2f (median of the rows), at most %.2f.\n", middle,
+           apart[line_count - 1]);
+}
+
 static void print_lines(void)
 {
     int over[4] = {0, 0, 0, 0}, edge = line_count / 20;
@@ -696,6 +710,7 @@ static void print_lines(void)
            copies[line_count - 1], copies[edge], copies[line_count - 1 - edge]);
     printf("Resolution: 95 of 100 rows of the copy are between %.3f and %.3f. A ratio between them is no difference.\n", 1.0 / most,
            most);
+    print_passes();
     printf("Over 0.8 of idiomatic: %d; beyond the resolution, over %.3f: %d.\n", over[0], 0.8 * most, over[1]);
     printf("Over 1.0 of tuned: %d; beyond the resolution, over %.3f: %d.\n", over[2], most, over[3]);
     printf("A star marks what is beyond the resolution.\n");
