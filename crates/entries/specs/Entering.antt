@@ -32,9 +32,12 @@ slotOf (S.Holds e) = some e
 abbrev pub meant : Gathered → Found
 meant g = record { header = g .header; cmd = slotOf (g .cmd); res = slotOf (g .res) }
 
-abbrev pub NameOf : Text → Name → Type 0
-NameOf w (N.Endpoint k) = w ≡ name k
-NameOf w N.Other = ordinary w ≡ true
+abbrev pub Named : Text → Name → Type 0
+Named w (N.Endpoint k) = w ≡ name k
+Named w N.Other = ordinary w ≡ true
+
+pub record NameOf (w : Text) (r : Name) : Type 0 where
+  pub is : Named w r
 
 ---- An endpoint ----------------------------------------------------------------------------------------------------------------
 

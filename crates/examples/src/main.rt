@@ -162,27 +162,14 @@ fn usb_writer_examples() {
 }
 
 fn usb_counter_examples() {
-    let twelve = [
-        0x01u8,
-        0xFE,
-        0xFF,
-        0xEE,
-        0x03,
-        0xFF,
-        0x01,
-        0x02,
-        0x03,
-        0xEE,
-        0xEE,
-        0xEE,
-    ];
+    let twelve = b"\x01\xFE\xFF\xEE\x03\xFF\x01\x02\x03\xEE\xEE\xEE";
     usb_reads(
         b"U1 reads the 12 bytes, fresh:",
         u1(1),
-        &twelve,
+        twelve,
         Counter::fresh(),
     );
-    usb_reads(b"250 expected:", u1(1), &twelve, expecting(250));
+    usb_reads(b"250 expected:", u1(1), twelve, expecting(250));
     usb_reads(
         b"255 expected, 0 received:",
         u1(1),

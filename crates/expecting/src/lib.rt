@@ -3,7 +3,7 @@ ghost use mathlib.Core.Path.{_≡_};
 ghost use Prim.Native.Nat.{_<_, _≤_};
 ghost use lib.ListN.{length, getD};
 ghost use Rattle.keywords.specs.Saying.{meaning};
-ghost use Rattle.expecting.specs.Expecting.{Expects, openings, parameters, kinds, Led};
+ghost use Rattle.expecting.specs.Expecting.{Expects, kinds, Led};
 use description::Reached;
 use finding::Next;
 use finding::next_word;
@@ -38,34 +38,25 @@ pub fn expect(kind: Kind, t: &[u8], q: usize) -> Expected
     }
 }
 
-fn opening(i: usize) -> Kind
-    requires { ⌜ i < 7 ⌝ }
-    ensures { λ r. ⌜ r ≡ getD openings i Kind.Number ⌝ }
-{
-    match i {
-        0 => Kind::Begin,
-        1 => Kind::Block,
-        2 => Kind::Number,
-        3 => Kind::Number,
-        4 => Kind::Number,
-        5 => Kind::Number,
-        _ => Kind::Header,
-    }
-}
+// The kinds of their words.
+const OPENINGS: [Kind; 7] = [
+    Kind::Begin,
+    Kind::Block,
+    Kind::Number,
+    Kind::Number,
+    Kind::Number,
+    Kind::Number,
+    Kind::Header,
+];
 
-fn parameter(i: usize) -> Kind
-    requires { ⌜ i < 6 ⌝ }
-    ensures { λ r. ⌜ r ≡ getD parameters i Kind.Number ⌝ }
-{
-    match i {
-        0 => Kind::Number,
-        1 => Kind::Transfer,
-        2 => Kind::Number,
-        3 => Kind::Number,
-        4 => Kind::Packing,
-        _ => Kind::Alignment,
-    }
-}
+const PARAMETERS: [Kind; 6] = [
+    Kind::Number,
+    Kind::Transfer,
+    Kind::Number,
+    Kind::Number,
+    Kind::Packing,
+    Kind::Alignment,
+];
 
 // The kind of a series' word.
 fn kind_at(s: Series, i: usize) -> Kind
@@ -73,8 +64,8 @@ fn kind_at(s: Series, i: usize) -> Kind
     ensures { λ r. ⌜ r ≡ getD (kinds s) i Kind.Number ⌝ }
 {
     match s {
-        Series::Opening => opening(i),
-        Series::Parameters => parameter(i),
+        Series::Opening => OPENINGS[i],
+        Series::Parameters => PARAMETERS[i],
     }
 }
 

@@ -1,5 +1,6 @@
 -- The piece at a place, from what starts there and where it ends; and the next word, found piece by piece.
 use Prim.Native.Nat.{ℕ, _+_, _-_, _<_, _≤_}
+use borrow.Author.Needs.{needs}
 use native.Mathlib.Omega.{arith}
 use native.Mathlib.Numerals.{add-one}
 use mathlib.Core.Path.{_≡_, refl, sym, ap, _∙_}
@@ -12,8 +13,9 @@ use lib.Dec.{eqb, ltb}
 use borrow.Author.Tests.{lt-ltb, le-ltb, eqb-true, not-false}
 use Rattle.words.specs.declared.Start.{Start}
 use Rattle.words.specs.declared.Start.the-variants as S
+use Rattle.finding.specs.declared.Next.{Next}
 use Rattle.finding.specs.declared.Next.the-variants as N
-use Rattle.words.specs.Words.{start, ends, wordEnds, lineEnds}
+use Rattle.words.specs.Words.{isBlank, start, ends, wordEnds, lineEnds}
 use Rattle.words.specs.Parting.{Piece, find, upTo, piece}
 use Rattle.runs.specs.Runs.{other, Run}
 use Rattle.finding.specs.Finding.{commentEnds, stringEnds, Sought, Passing, NextWord}
@@ -107,13 +109,10 @@ word-length (Seen.taken {s = s} {t = t} w e) = (omega (arith, word-some w), omeg
 pub pass-first : {t : List ℕ} {q : ℕ} → q ≤ length t → Passing t q q
 pass-first h = record { from = omega arith; to = h; is = refl }
 
-pub pass-both : {t : List ℕ} {q k r : ℕ} → Passing t q k → Passing t k r → Passing t q r
+pass-both : {t : List ℕ} {q k r : ℕ} → Passing t q k → Passing t k r → Passing t q r
 pass-both g h = record { from = omega (arith, g .from, h .from); to = h .to; is = g .is ∙ h .is }
 
 module _ {t : List ℕ} {q k : ℕ} (g : Passing t q k) where
-  pub pass-room : {s : Start} → s ≡ start (drop k t) → k + least s ≤ length t
-  pass-room e = omega (arith, room t k e, g .to)
-
   -- a gap up to place r
   pass-gap : {r : ℕ} → k ≤ r → piece (drop k t) ≡ Piece.passed (r - k) → Passing t q r
   pass-gap {r} h e =
@@ -137,33 +136,42 @@ module _ {t : List ℕ} {q k : ℕ} (g : Passing t q k) where
         within = (g .from, omega arith, omega (arith, length-drop k t, g .to));
       }
 
-  pub pass-end : S.Nothing ≡ start (drop k t) → NextWord t q N.End
-  pass-end e = record { is = g .is ∙ parting-eq k (drop k t) ∙ rw (piece-end t k e); within = tt }
-
   pass-cut : piece (drop k t) ≡ Piece.unclosed → NextWord t q N.Cut
   pass-cut e = record { is = g .is ∙ parting-eq k (drop k t) ∙ rw e; within = tt }
 
-  pub pass-blank : S.Blank ≡ start (drop k t) → Passing t q (k + 1)
-  pass-blank e = pass-gap (omega arith) (piece-blank t k e)
+  pub pass-blank : {b : Bool} → k < length t → b ≡ isBlank (getD t k 0) → b ≡ true → Passing t q (k + 1)
+  pass-blank h e f = pass-gap (omega arith) (piece-blank t k (start-blank t k h e f))
 
-  module _ {r : ℕ} where
-    pub pass-comment : S.Comment ≡ start (drop k t) → Sought commentEnds t (k + 2) r → r < length t → Passing t q (r + 2)
-    pass-comment e s h = pass-gap (omega (arith, s .from)) (piece-comment t k e s ∙ rw (lt-ltb r (length t) h))
+  -- by what starts at place k
+  module _ {x : Start} (w : x ≡ start (drop k t)) where
+    pub pass-end : x ≡ S.Nothing → NextWord t q N.End
+    pass-end e = record { is = g .is ∙ parting-eq k (drop k t) ∙ rw (piece-end t k (sym e ∙ w)); within = tt }
 
-    pub cut-comment : S.Comment ≡ start (drop k t) → Sought commentEnds t (k + 2) r → length t ≤ r → NextWord t q N.Cut
-    cut-comment e s h = pass-cut (piece-comment t k e s ∙ rw (le-ltb r (length t) h))
+    module _ {r : ℕ} where
+      pub pass-blanks : x ≡ S.Blank → Passing t (k + 1) r → Passing t q r
+      pass-blanks e h = pass-both (pass-gap (omega arith) (piece-blank t k (sym e ∙ w))) h
 
-    pub pass-line : S.Line ≡ start (drop k t) → Sought lineEnds t (k + 2) r → Passing t q r
-    pass-line e s = pass-gap (omega (arith, s .from)) (piece-line t k e s)
+      pub pass-comment : x ≡ S.Comment → Sought commentEnds t (k + 2) r → r < length t → Passing t q (r + 2)
+      pass-comment e s h = pass-gap (omega (arith, s .from)) (piece-comment t k (sym e ∙ w) s ∙ rw (lt-ltb r (length t) h))
 
-    pub pass-string : S.Quote ≡ start (drop k t) → Sought stringEnds t (k + 1) r → r < length t → NextWord t q (N.Word k (r + 1))
-    pass-string e s h = pass-word (omega (arith, s .from)) (piece-string t k e s ∙ rw (lt-ltb r (length t) h))
+      pub cut-comment : x ≡ S.Comment → Sought commentEnds t (k + 2) r → length t ≤ r → NextWord t q N.Cut
+      cut-comment e s h = pass-cut (piece-comment t k (sym e ∙ w) s ∙ rw (le-ltb r (length t) h))
 
-    pub cut-string : S.Quote ≡ start (drop k t) → Sought stringEnds t (k + 1) r → length t ≤ r → NextWord t q N.Cut
-    cut-string e s h = pass-cut (piece-string t k e s ∙ rw (le-ltb r (length t) h))
+      pub pass-line : x ≡ S.Line → Sought lineEnds t (k + 2) r → Passing t q r
+      pass-line e s = pass-gap (omega (arith, s .from)) (piece-line t k (sym e ∙ w) s)
 
-    pub pass-other : S.Other ≡ start (drop k t) → Sought wordEnds t (k + 1) r → NextWord t q (N.Word k r)
-    pass-other e s = pass-word (omega (arith, s .from)) (piece-other t k e (omega (arith, pass-room e)) s)
+      pub pass-string : x ≡ S.Quote → Sought stringEnds t (k + 1) r → r < length t → NextWord t q (N.Word k (r + 1))
+      pass-string e s h = pass-word (omega (arith, s .from)) (piece-string t k (sym e ∙ w) s ∙ rw (lt-ltb r (length t) h))
+
+      pub cut-string : x ≡ S.Quote → Sought stringEnds t (k + 1) r → length t ≤ r → NextWord t q N.Cut
+      cut-string e s h = pass-cut (piece-string t k (sym e ∙ w) s ∙ rw (le-ltb r (length t) h))
+
+      pub pass-other : x ≡ S.Other → Sought wordEnds t (k + 1) r → NextWord t q (N.Word k r)
+      pass-other e s = pass-word (omega (arith, s .from)) (piece-other t k (sym e ∙ w) (omega (arith, room t k (sym e ∙ w))) s)
+
+-- a piece that starts has its bytes
+pub pass-room : (x : Start) {t : List ℕ} {q k : ℕ} {s : Start} → Passing t q k → s ≡ start (drop k t) → s ≡ x → k + least x ≤ length t
+pass-room x {t} {k = k} g w e = omega (arith, room t k (sym e ∙ w), g .to)
 
 -- a run of 32
 pub pass-run : {t : List ℕ} {q k : ℕ} → Run (other 32) t q k → Passing t q k
@@ -171,5 +179,13 @@ pass-run {t} {q} g =
     run-keeps (Passing t q)
     (λ i h e s.
     let b : getD t i 0 ≡ 32 = eqb-true (getD t i 0) 32 (not-false (eqb (getD t i 0) 32) e) in
-    rw (← add-one i) (pass-blank s (start-blank t i h (rw b) refl)))
+    rw (← add-one i) (pass-blank s h (rw b) refl))
     g (pass-first (omega (arith, g .from, g .to)))
+
+-- for callers: by what the answer is
+pub word-told : {t : List ℕ} {q : ℕ} {r x : Next} → NextWord t q r → r ≡ x → NextWord t q x
+word-told n e = rw e at n
+
+pub ruleset gaps = (pass-first, pass-run, pass-blank, pass-blanks, pass-comment, pass-line)
+
+pub ruleset passes = (needs, gaps, pass-end, cut-comment, pass-string, cut-string, pass-other)

@@ -1,5 +1,6 @@
 -- A search goes on byte by byte, or by a run of bytes at which what is sought cannot be.
 use Prim.Native.Nat.{ℕ, suc, _+_, _-_, _<_, _≤_}
+use borrow.Author.Needs.{needs}
 use native.Mathlib.Omega.{arith}
 use native.Mathlib.Numerals.{add-one}
 use mathlib.Core.Path.{_≡_, refl, sym, ap, _∙_}
@@ -15,6 +16,7 @@ use Rattle.words.proofs.PieceLaws.{find-here}
 use Rattle.runs.specs.Runs.{Run}
 use Rattle.finding.specs.Finding.{later, Sought, Seeking}
 use Rattle.runs.proofs.RunLaws.{run-keeps}
+use Rattle.finding.proofs.StartLaws.{endings}
 
 later-more : (k : ℕ) (o : Option ℕ) → later k (oneMore o) ≡ later (k + 1) o
 later-more k none = refl
@@ -76,3 +78,5 @@ module _ {p : List ℕ → Bool} {t : List ℕ} where
       by : (b : Bool) → oneMore (cond b (some (r - suc k)) none) ≡ cond b (some (r - k)) none
       by true = ap some (omega (arith, s .from))
       by false = refl
+
+pub ruleset seeks = (needs, seek-run, seek-on, seek-found, seek-end, endings)

@@ -1,5 +1,6 @@
 -- What starts and ends at a place is told by the byte there and the byte behind it, 0 where there is none.
 use Prim.Native.Nat.{ℕ, suc, _+_, _<_, _≤_}
+use borrow.Author.Needs.{needs}
 use native.Mathlib.Omega.{arith}
 use mathlib.Core.Path.{_≡_, refl, sym, ap, _∙_}
 use mathlib.Core.Bool.{Bool, true, false, cond, _&&_, _||_}
@@ -7,7 +8,7 @@ use mathlib.Core.List.{List, [], _∷_}
 use lib.ListN.{length, drop, getD, drop-of-length-le}
 use lib.Seq.{drop-cons, getD-drop}
 use lib.Dec.{eqb}
-use borrow.Author.Tests.{ltb-false, ne-eqb}
+use borrow.Author.Tests.{ltb-false, eq-eqb, ne-eqb}
 use Rattle.words.specs.declared.Start.{Start}
 use Rattle.words.specs.declared.Start.the-variants as S
 use Rattle.words.specs.Words.{begins, isBlank, start, ends, wordEnds, lineEnds}
@@ -82,14 +83,30 @@ module _ (t : List ℕ) (k : ℕ) (h : k < length t) where
       → S.Other ≡ start (drop k t)
   start-other s e f q = rw (start-at, ← e, f, ne-eqb (getD t k 0) 47 s, ne-eqb (getD t k 0) 34 q)
 
-  pub comment-at : {s : ℕ} → s ≡ getD t (k + 1) 0 → commentEnds (drop k t) ≡ (eqb (getD t k 0) 42 && eqb s 47)
-  comment-at f = let (d, e) = drop-two in rw (f, d, ← e) (begins-two 42 47 (getD t k 0) (drop (suc k) t) refl)
+  -- what ends at place k, by a test of its bytes
+  module _ {x : Bool} where
+    pub comment-is : {s : ℕ} → s ≡ getD t (k + 1) 0 → (eqb (getD t k 0) 42 && eqb s 47) ≡ x → commentEnds (drop k t) ≡ x
+    comment-is f g = let (d, e) = drop-two in rw (d, ← g, f, ← e) (begins-two 42 47 (getD t k 0) (drop (suc k) t) refl)
 
-  pub string-at : stringEnds (drop k t) ≡ eqb (getD t k 0) 34
+    pub line-is : (eqb (getD t k 0) 10 || eqb (getD t k 0) 13) ≡ x → lineEnds (drop k t) ≡ x
+    line-is g = rw (drop-cons t k 0 h) g
+
+  string-at : stringEnds (drop k t) ≡ eqb (getD t k 0) 34
   string-at = rw (drop-cons t k 0 h) (and-true (eqb (getD t k 0) 34))
 
-  pub line-at : lineEnds (drop k t) ≡ (eqb (getD t k 0) 10 || eqb (getD t k 0) 13)
-  line-at = rw (drop-cons t k 0 h)
+  pub string-is : getD t k 0 ≡ 34 → stringEnds (drop k t) ≡ true
+  string-is e = string-at ∙ eq-eqb (getD t k 0) 34 e
+
+  pub string-not : (getD t k 0 ≡ 34 → ⊥) → stringEnds (drop k t) ≡ false
+  string-not n = string-at ∙ ne-eqb (getD t k 0) 34 n
+
+pub word-is : (u : List ℕ) {s : Start} {b x : Bool} → s ≡ start u → b ≡ ends s → b ≡ x → wordEnds u ≡ x
+word-is u e f g = sym (f ∙ ap ends e) ∙ g
 
 pub start-end : (t : List ℕ) (q : ℕ) → length t ≤ q → S.Nothing ≡ start (drop q t)
 start-end t q h = rw (drop-of-length-le t h)
+
+-- what starts at a place, and what ends there or not
+pub ruleset starts = (needs, start-over, start-slash, start-blank, start-quote, start-other, start-end)
+
+pub ruleset endings = (clear-word, clear-line, clear-string, clear-comment, word-is, line-is, string-is, string-not, comment-is)

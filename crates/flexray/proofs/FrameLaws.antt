@@ -20,7 +20,7 @@ use Rattle.flexray.specs.Layout.{First, Further, Laid, Closed, Frame}
 use Rattle.flexray.specs.Layout.{Further.here, Further.next, Laid.frame as laid, Closed.outside, Closed.zeroed}
 use Rattle.flexray.specs.Writing.{byteAfter, evening, further, frame, placedBehind, placed, shown, spansBehind, spans}
 use Rattle.flexray.specs.Refusal.{Fit}
-use Rattle.flexray.proofs.SeenLaws.{start-more}
+use Rattle.flexray.proofs.AlignLaws.{start-behind}
 use Rattle.flexray.proofs.FurtherLaws.{further-on}
 use Rattle.flexray.proofs.WayLaws.{says-head}
 use Rattle.flexray.proofs.SettingLaws.{Good, good}
@@ -46,12 +46,12 @@ module _ (s : Setting) (fill : ℕ) where
   evening-closed e l = at (eqb (e % 2) 0) (eqb (start (s .align) e) (e + 1)) refl
     where
       at : (a b : Bool) → eqb (start (s .align) e) (e + 1) ≡ b → Closed (s .align) e (cond a [] (byteAfter s fill e ∷ []))
-      at true b g = outside [] (omega (arith, start-more (s .align) e))
+      at true b g = outside [] (omega (arith, start-behind (s .align) e))
       at false true g =
           let h : start (s .align) e ≡ e + 1 = eqb-true (start (s .align) e) (e + 1) g in
           rw (zero-there e l h) (zeroed [] [] (omega arith))
       at false false g =
-          outside (byteAfter s fill e ∷ []) (omega (arith, start-more (s .align) e, eqb-false (start (s .align) e) (e + 1) g))
+          outside (byteAfter s fill e ∷ []) (omega (arith, start-behind (s .align) e, eqb-false (start (s .align) e) (e + 1) g))
 
   -- without LEN it is the fill byte
   pub evening-fill : (e : ℕ) → L s ≡ 0 → evening s fill e ≡ replicate (e % 2) fill
@@ -81,7 +81,7 @@ module _ (s : Setting) (fill : ℕ) where
   unfolding further placedBehind spansBehind
   written-further e [] f = here
   written-further e (b ∷ bs) f =
-      let m : e < start A e = start-more A e in
+      let m : e < start A e = start-behind A e in
       let n : ℕ = start A e - 1 - e in
       let l : e + length (replicate n fill) + 1 ≡ start A e = rw (length-replicate n fill) (omega arith) in
       next (replicate n fill) b l (f .0 .least) (written-further (start A e + length b) bs (f .1))
@@ -183,7 +183,7 @@ module _ (s : Setting) (ok : sound s ≡ true) (fill c : ℕ) (v : holds (W s) c
         all = λ z. refl;
         len = λ z. absurd (omega arith);
       } in
-      let d : Closed (s .align) (H s + length (b ++ w)) [] = outside [] (omega (arith, start-more (s .align) (H s + length (b ++ w)))) in
+      let d : Closed (s .align) (H s + length (b ++ w)) [] = outside [] (omega (arith, start-behind (s .align) (H s + length (b ++ w)))) in
       rw p (rw (append-nil (b ++ w)) at (framed (length b) (b ++ w) r here d (rw n (omega arith)) (omega (arith, f .0 .most, g .even))))
 
   -- packets that fit, of which there are some, and one without LEN

@@ -16,7 +16,8 @@ use Rattle.flexray.specs.declared.Setting.{Setting}
 use Rattle.flexray.specs.Setting.{start}
 use Rattle.flexray.specs.Layout.{Further, Closed, Further.here, Further.next, Closed.outside, Closed.zeroed}
 use Rattle.flexray.specs.Reading.{nextLen, step}
-use Rattle.flexray.proofs.SeenLaws.{Sees.is-packet, packetOf, Later, start-more}
+use Rattle.flexray.proofs.AlignLaws.{start-behind}
+use Rattle.flexray.proofs.SeenLaws.{Sees.is-packet, packetOf, Later}
 use Rattle.flexray.proofs.SeenLaws.{later, later-only, later-passes}
 
 ---- Bytes at a place -----------------------------------------------------------------------------------------------------------
@@ -34,7 +35,7 @@ module _ (a : ℕ) (t : List ℕ) where
   lenPlace : (q : ℕ) → start a q ≤ length t
       → (f : List ℕ) × (q + length f + 1 ≡ start a q) × (drop q t ≡ f ++ (nextLen a t q ∷ drop (start a q) t))
   lenPlace q h =
-      let m : q < start a q = start-more a q in
+      let m : q < start a q = start-behind a q in
       let k : ℕ = start a q - 1 - q in
       let l : length (take k (drop q t)) ≡ k = long t q k (omega arith) in
       let i : q + k ≡ start a q - 1 = omega arith in
@@ -67,11 +68,11 @@ module _ (a : ℕ) (t : List ℕ) where
       at true g =
           let (f, l, c) = lenPlace q (leb-true (start a q) (length t) g) in
           rw (c, z) (zeroed f (drop (start a q) t) l)
-      at false g = outside (drop q t) (rw length-drop (omega (arith, start-more a q, leb-false (start a q) (length t) g)))
+      at false g = outside (drop q t) (rw length-drop (omega (arith, start-behind a q, leb-false (start a q) (length t) g)))
 
 pub further-on : {a e q : ℕ} {cs bs : List ℕ} {ms : List Msg} → Further a e cs q ms bs → q ≤ e
 further-on here = omega arith
-further-on {a} (next {q = q} f b l z k) = omega (arith, start-more a q, further-on k)
+further-on {a} (next {q = q} f b l z k) = omega (arith, start-behind a q, further-on k)
 
 next-sized : {a e q n : ℕ} {cs bs : List ℕ} {ms : List Msg} (f b : List ℕ) → length b ≡ n → q + length f + 1 ≡ start a q → 0 < n
     → Further a e cs (start a q + n) ms bs → Further a e cs q (record { at = start a q; packet = b; ctr = 0 } ∷ ms) (f ++ (n ∷ (b ++ bs)))

@@ -17,7 +17,8 @@ use Rattle.flexray.specs.declared.Setting.{Setting}
 use Rattle.flexray.specs.Setting.{fields, H, sound}
 use Rattle.flexray.specs.Layout.{Evened, Sized, Closed, Frame}
 use Rattle.flexray.specs.Reading.{seen, step, ahead, judged}
-use Rattle.flexray.proofs.SeenLaws.{Sees, Sees.is-none, Sees.is-past, Sees.is-packet, start-more}
+use Rattle.flexray.proofs.AlignLaws.{start-behind}
+use Rattle.flexray.proofs.SeenLaws.{Sees, Sees.is-none, Sees.is-past, Sees.is-packet}
 use Rattle.flexray.proofs.SeenLaws.{Later, first, first-done, later, later-only}
 use Rattle.flexray.proofs.WayLaws.{Reached, Reached.start-itself, Reached.packet-end, reached, leads}
 use Rattle.flexray.proofs.FurtherLaws.{closed-none, none-closed}
@@ -33,7 +34,7 @@ module _ (s : Setting) (t : List ℕ) where
 
   pub forward : (q : ℕ) → Forward (length t) q (step s t q)
   forward zero = moves 0 (omega arith) tt tt (first s t)
-  forward (suc q) = moves (suc q) (omega (arith, start-more (s .align) (suc q))) tt tt (later s t (suc q) (omega arith))
+  forward (suc q) = moves (suc q) (omega (arith, start-behind (s .align) (suc q))) tt tt (later s t (suc q) (omega arith))
 
   pub ahead-ends : {o : Out Msg} → ahead s t 0 ≡ o → Ends (step s t) 0 o
   unfolding ahead
@@ -126,9 +127,6 @@ module _ (s : Setting) (t : List ℕ) where
       let (l, c, h) = leads s t (f .laid) in
       let d : step s t (f .end) ≡ done = later-only s t (f .end) h (is-none (closed-none (s .align) t (f .end) (f .closed) c)) in
       judged-is (walks (f .setting) (f .sized) (ends-ahead s t (ends l d)))
-
-  pub read-unique : (ms ns : List Msg) → Frame s ms t → Frame s ns t → ms ≡ ns
-  read-unique ms ns f g = let x = read-complete ms f in let y = read-complete ns g in cc
 
   -- a packet's part, asked for by place and length, shows exactly the packet
   pub parts-show : (ms : List Msg) → Frame s ms t → Each (Shown t) ms

@@ -4,33 +4,30 @@ use native.Mathlib.Omega.{arith}
 use mathlib.Core.Path.{_≡_, refl, sym, _∙_}
 use mathlib.Core.Bool.{Bool, true, false}
 use mathlib.Core.List.{List, [], _∷_}
-use mathlib.Core.Logic.{_↔_}
-use lib.ListN.{length, take, drop}
+use lib.ListN.{length, drop}
 use lib.Dec.{eqb}
 use borrow.Author.Tests.{eqb-true, eqb-false}
 use Rattle.layout.specs.Field.{says, Name.LEN}
 use Rattle.layout.specs.Walk.{Ends, Out.refused, Step.fault, Leads.here, Ends.stops}
 use Rattle.packet.specs.declared.Counter.{Counter}
-use Rattle.packet.specs.declared.Reading.the-variants as R
 use Rattle.packet.specs.Counter.{valid, gap, advance}
 use Rattle.packet.specs.Row.{row}
 use Rattle.packet.specs.Message.{Msg}
-use Rattle.packet.specs.Answer.{readNumber, readState}
 use Rattle.packet.proofs.CounterLaws.{exceeds-known, valid-without, not-valid}
 use Rattle.packet.proofs.RowLaws.{length-table, state-unread}
-use Rattle.packet.proofs.ReaderLaws.{Alike, Unread, refused-anyway, read-keeps, exactly-unread, exactly-accepted, rows-front, same-rows, same-state}
+use Rattle.packet.proofs.ReaderLaws.{Alike, Unread, refused-anyway, Rules, rulesOf, Reader, reader, alike}
 use Rattle.flexray.specs.declared.Setting.{Setting}
-use Rattle.flexray.specs.Setting.{fields, H, L, W, sound}
+use Rattle.flexray.specs.Setting.{fields, H, L, W}
 use Rattle.flexray.specs.Layout.{Sized, Frame}
 use Rattle.flexray.specs.Reading.{firstLen, step, ahead, judged, readOf}
 use Rattle.flexray.specs.Row.{frameTable, frameState}
-use Rattle.flexray.specs.Refusal.{Fine, Broken, ReadRefusal, ReadAccept}
+use Rattle.flexray.specs.Refusal.{Fine, Broken, ReadRefusal}
 use Rattle.flexray.specs.Refusal.{Broken.zeroed, Broken.past, Broken.behind as past-behind}
 use Rattle.flexray.specs.Refusal as S
 use Rattle.flexray.proofs.SeenLaws.{Sees.is-none, Sees.is-past, First, Later}
 use Rattle.flexray.proofs.SeenLaws.{first, first-only, first-all, first-said, later, later-only}
 use Rattle.flexray.proofs.WayLaws.{Reached, Reached.start-itself, Reached.packet-end, reached, leads}
-use Rattle.flexray.proofs.ReadLaws.{ahead-ends, ends-ahead, read-sound, read-complete}
+use Rattle.flexray.proofs.ReadLaws.{ahead-ends, ends-ahead, read-sound, read-complete, parts-show}
 use Rattle.flexray.proofs.ReadLaws.{Judged, judge, judged-is}
 use Rattle.flexray.proofs.ReadLaws.{Judged.unsound, Judged.odd, Judged.long, Judged.short, Judged.other, Judged.walks}
 
@@ -60,7 +57,7 @@ module _ (s : Setting) (t : List ℕ) (z : Sized s t) where
       at : {n p : ℕ} → Later s t k (fault n p) → Broken s t n p
       at (is-past e h) = past-behind _ k (drop k t) ms l refl e h
 
-  pub broken : {n p : ℕ} → ahead s t 0 ≡ refused n p → Broken s t n p
+  broken : {n p : ℕ} → ahead s t 0 ≡ refused n p → Broken s t n p
   broken e = at (ahead-ends s t e)
     where
       at : {n p : ℕ} → Ends (step s t) 0 (refused n p) → Broken s t n p
@@ -75,13 +72,7 @@ module _ (s : Setting) (t : List ℕ) (z : Sized s t) where
       let (w, c, y) = leads s t l in
       stops w (later-only s t k y (is-past (omega arith) (omega arith)))
 
-  pub rule-broken : (n p : ℕ) → (ahead s t 0 ≡ refused n p) ↔ Broken s t n p
-  rule-broken n p = (broken, λ b. ends-ahead s t (breaks b))
-
 ---- The answer -----------------------------------------------------------------------------------------------------------------
-
-abbrev rowsOf : Setting → Counter → List Msg → List ℕ
-rowsOf s c = frameTable (s .direction) (W s) c
 
 -- a refusal has one of document 01's numbers
 rule-number : {s : Setting} {t : List ℕ} {n p : ℕ} → Broken s t n p → (0 < n) × (n ≤ 8)
@@ -89,7 +80,7 @@ rule-number (zeroed l e) = omega arith
 rule-number (past n l e h b) = omega arith
 rule-number (past-behind n k cs ms l e h b) = omega arith
 
-pub read-number : {s : Setting} {t : List ℕ} {c : Counter} {k n p : ℕ} → ReadRefusal s t c k n p → (0 < n) × (n ≤ 8)
+read-number : {s : Setting} {t : List ℕ} {c : Counter} {k n p : ℕ} → ReadRefusal s t c k n p → (0 < n) × (n ≤ 8)
 read-number (S.ReadRefusal.setting e) = omega arith
 read-number (S.ReadRefusal.counter k x) = omega arith
 read-number (S.ReadRefusal.odd f h) = omega arith
@@ -122,39 +113,23 @@ module _ (s : Setting) (t : List ℕ) (c : Counter) (rows : List ℕ) where
   to-table (S.ReadRefusal.long f h) = Unread.judged (f .counter) (judged-is s t (long (f .setting) h))
   to-table (S.ReadRefusal.short f v h) = Unread.judged (f .counter) (judged-is s t (short (f .setting) v h))
   to-table (S.ReadRefusal.node f v h x) = Unread.judged (f .counter) (judged-is s t (other (f .setting) v h x))
-  to-table (S.ReadRefusal.rule {n = n} {p = p} f z b) =
-      Unread.judged (f .counter) (judged-is s t (walks (f .setting) z (rule-broken s t z n p .1 b)))
+  to-table (S.ReadRefusal.rule f z b) = Unread.judged (f .counter) (judged-is s t (walks (f .setting) z (ends-ahead s t (breaks s t z b))))
   to-table (S.ReadRefusal.room f ms r h) = Unread.crowded ms (f .counter) (read-complete s t ms r) h
-
-  pub refused-exactly : (n p : ℕ) → (readOf s t c rows .answer ≡ R.Refused n p) ↔ ReadRefusal s t c (length rows) n p
-  unfolding readOf
-  refused-exactly n p = exactly-unread (rowsOf s c) (frameState (W s) c) rows (valid (W s) c) (judged s t) by-table to-table
-
-  -- a refusal leaves the table and the state
-  pub refused-keeps : 0 < readNumber (readOf s t c rows .answer)
-      → (readOf s t c rows .lent ≡ rows) × (readState c (readOf s t c rows .answer) ≡ c)
-  unfolding readOf
-  refused-keeps = read-keeps (rowsOf s c) (frameState (W s) c) rows (valid (W s) c) (judged s t) c
-
-  pub accepted-exactly : (k : ℕ) (d : Counter) → (readOf s t c rows .answer ≡ R.Rows k d) ↔ ReadAccept s t c (length rows) k d
-  unfolding readOf
-  accepted-exactly =
-      exactly-accepted (rowsOf s c) (frameState (W s) c) rows (sound s) (valid (W s) c) (judged s t) (λ ms. Frame s ms t)
-      (read-sound s t) (read-complete s t) (λ ms x. x .setting)
 
   length-frame-table : (ms : List Msg) → length (frameTable (s .direction) (W s) c ms) ≡ 5 * length ms
   unfolding frameTable
   length-frame-table [] = refl
   length-frame-table (m ∷ ms) = omega (arith, length-table (s .direction) 0 c ms)
 
-  -- the rows of what is accepted stand at the front of the table, and those behind are unchanged
-  pub accepted-rows : (ms : List Msg) → Fine s c → Frame s ms t → 5 * length ms ≤ length rows
-      → (take (5 * length ms) (readOf s t c rows .lent) ≡ frameTable (s .direction) (W s) c ms)
-      × (drop (5 * length ms) (readOf s t c rows .lent) ≡ drop (5 * length ms) rows)
+  -- what document 01 says of a read
+  abbrev pub rules : Rules t rows
+  rules = rulesOf (ReadRefusal s t c (length rows)) (Fine s c) (λ ms. Frame s ms t) (frameTable (s .direction) (W s) c) (frameState (W s) c)
+
+  pub read-exact : Reader rules (readOf s t c rows)
   unfolding readOf
-  accepted-rows ms =
-      rows-front (rowsOf s c) (frameState (W s) c) rows (sound s) (valid (W s) c) (judged s t) (λ ms. Frame s ms t)
-      (read-sound s t) (read-complete s t) (λ ms x. x .setting) ms (length-frame-table ms)
+  read-exact =
+      reader rules (valid (W s) c) (judged s t) (λ n p. read-number) (λ n p. by-table) (λ n p. to-table) (read-sound s t) (read-complete s t)
+      (λ f. f .counter) (λ ms v x. record { setting = x .setting; counter = v }) length-frame-table (parts-show s t)
 
 ---- Without CTR ----------------------------------------------------------------------------------------------------------------
 
@@ -169,14 +144,9 @@ frame-unaltered c [] = refl
 frame-unaltered c (m ∷ ms) = refl
 
 -- the state is neither read nor altered
-module _ (s : Setting) (t : List ℕ) (none : W s ≡ 0) (rows : List ℕ) where
-  pub counter-unread : (b c : Counter) → Alike (readOf s t b rows) (readOf s t c rows)
-  unfolding readOf
-  counter-unread b c =
-      rw (none, valid-without b, valid-without c)
-      (same-rows (frameTable (s .direction) 0 b) (frameState 0 b) rows true (judged s t)
-      (frameTable (s .direction) 0 c) (frameState 0 c) (frame-unread (s .direction) b c))
-
-  pub counter-unaltered : (c : Counter) → readState c (readOf s t c rows .answer) ≡ c
-  unfolding readOf
-  counter-unaltered c = rw none (same-state (frameTable (s .direction) 0 c) (frameState 0 c) rows (valid 0 c) (judged s t) c (frame-unaltered c))
+pub counter-unread : (s : Setting) (t : List ℕ) → W s ≡ 0 → (rows : List ℕ) (b c : Counter) → Alike (readOf s t b rows) (readOf s t c rows) b
+unfolding readOf
+counter-unread s t none rows b c =
+    rw (none, valid-without b, valid-without c)
+    (alike (frameTable (s .direction) 0 b) (frameState 0 b) rows true (judged s t) (frameTable (s .direction) 0 c) (frameState 0 c) b
+    (frame-unread (s .direction) b c) (frame-unaltered b))

@@ -18,10 +18,6 @@ use Rattle.flexray.specs.declared.Setting.{Setting}
 use Rattle.flexray.specs.Setting.{fields, H, L, start}
 use Rattle.flexray.specs.Reading.{packetAt, firstLen, nextLen, seen, step}
 
-pub start-more : (a e : ℕ) → e < start a e
-unfolding start
-start-more a e = omega arith
-
 -- a packet of n bytes at p with counter c, and where its end is
 abbrev found : ℕ → ℕ → ℕ → Found
 found p n c = record { at = p; len = n; ctr = c }

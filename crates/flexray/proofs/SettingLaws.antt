@@ -34,16 +34,9 @@ pub record Good (s : Setting) : Type 0 where
 right : Header → Bool
 right h =
     let fs = h .fields in
-    eqb (place NAX fs) 0
-    && eqb (width NAX fs) 1
-    && leb 1 (size fs)
-    && leb (size fs) 4
-    && leb (width LEN fs) 1
-    && leb (width CTR fs) 1
-    && all alignment (h .aligns)
-
-spaced : Header → Bool
-spaced h = let fs = h .fields in leb (1 + width CTR fs + width LEN fs) (size fs) && all (λ a. eqb (size fs % a) 0) (h .aligns)
+    (eqb (place NAX fs) 0 && eqb (width NAX fs) 1 && leb (width LEN fs) 1 && leb (width CTR fs) 1)
+    && (leb 1 (size fs) && leb (size fs) 4 && leb (1 + width CTR fs + width LEN fs) (size fs))
+    && (all alignment (h .aligns) && all (λ a. eqb (size fs % a) 0) (h .aligns))
 
 -- an alignment of the list passes what all of it pass
 among-all : (f : ℕ → Bool) (a : ℕ) (bs : List ℕ) → among a bs ≡ true → all f bs ≡ true → f a ≡ true
@@ -70,18 +63,13 @@ headers-right : (n : ℕ) → n < length headers → right (header n) ≡ true
 unfolding headers right
 headers-right n h = all-at right (record { fields = []; aligns = [] }) headers n refl h
 
-headers-spaced : (n : ℕ) → n < length headers → spaced (header n) ≡ true
-unfolding headers spaced
-headers-spaced n h = all-at spaced (record { fields = []; aligns = [] }) headers n refl h
-
 pub good : (s : Setting) → sound s ≡ true → Good s
-unfolding sound right spaced
+unfolding sound right
 good s e =
     let fs = fields s in
     let aligns = header (s .header) .aligns in
     let m : among (s .align) aligns ≡ true = search (and-left, and-right) in
     let r : right (header (s .header)) ≡ true = headers-right (s .header) (listed (s .align) (s .header) m) in
-    let t : spaced (header (s .header)) ≡ true = headers-spaced (s .header) (listed (s .align) (s .header) m) in
     record {
       node = ltb-true (s .node) 256 (search (and-left, and-right));
       least = leb-true 8 (s .ceiling) (search (and-left, and-right));

@@ -1,33 +1,27 @@
--- What is written is a frame of the packets given, and is read back. The writer refuses exactly where a rule is broken.
-use Prim.Native.Nat.{ℕ, suc, _+_, _*_, _%_, _<_, _≤_}
+-- What is written is a frame of the packets given. The writer refuses exactly where a rule is broken.
+use Prim.Native.Nat.{ℕ, suc, _+_, _%_, _<_, _≤_}
 use native.Mathlib.Omega.{arith}
 use mathlib.Core.Path.{_≡_, refl, sym, ap, _∙_}
 use mathlib.Core.Bool.{Bool, true, false, _||_}
 use mathlib.Core.List.{List, [], _∷_, _++_, append-nil, map}
-use mathlib.Core.Logic.{_↔_}
-use lib.ListN.{length, getD, take, drop, replicate}
+use lib.ListN.{length, length-map, getD, take, drop, replicate}
 use borrow.Author.Tests.{eq-eqb, ne-eqb}
 use Rattle.layout.proofs.TestLaws.{why-passed, why-failed, passed, failed}
-use Rattle.packet.specs.declared.Counter.{Counter}
-use Rattle.packet.specs.declared.Reading.the-variants as R
 use Rattle.packet.specs.declared.Writing.the-variants as W
 use Rattle.packet.specs.Message.{Msg}
-use Rattle.packet.specs.Counter.{valid, holds, later}
-use Rattle.packet.proofs.CounterLaws.{exceeds, not-held}
+use Rattle.packet.specs.Counter.{holds, later}
 use Rattle.packet.specs.Packets.{joined, packets, mismatched, Matched, first}
+use Rattle.packet.proofs.AnswerLaws.{Exact}
+use Rattle.packet.proofs.CounterLaws.{exceeds, not-held}
 use Rattle.packet.proofs.PacketsLaws.{packets-lengths, length-packets, fit-before, unfit-there, index-is, index-none, each}
-use Rattle.packet.specs.Answer.{writeNumber, writeCounter}
-use Rattle.packet.proofs.WriterLaws.{Unwritten, Written, why-written, wrote-front, kept-past, write-keeps, exactly-unwritten, exactly-written}
+use Rattle.packet.proofs.WriterLaws.{Call, Unwritten, Written, why-written, wrote-front, writer}
 use Rattle.flexray.specs.declared.Setting.{Setting}
 use Rattle.flexray.specs.Setting.{H, L, W, moved, sound}
 use Rattle.flexray.specs.Layout.{Frame}
-use Rattle.flexray.specs.Reading.{readOf}
-use Rattle.flexray.specs.Row.{frameTable, frameState}
 use Rattle.flexray.specs.Writing.{spans, misfit, miscounted, frame, placed, placedBehind, shown, composed, writeOf}
-use Rattle.flexray.specs.Refusal.{Fine, ReadAccept, Fit, Counted, Willing, noSpan, span, WriteRefusal, WriteAccept}
+use Rattle.flexray.specs.Refusal.{Fit, Counted, Willing, noSpan, span, WriteRefusal, WriteAccept}
 use Rattle.flexray.proofs.FitLaws.{misfit-tells, not-both-fit, length-spans, Miscount, Rightly, count-tells, not-both-count}
 use Rattle.flexray.proofs.FrameLaws.{Fits, evening-fill, written, frame-shortest}
-use Rattle.flexray.proofs.RefusalLaws.{accepted-exactly, accepted-rows}
 
 ---- The packets shown ----------------------------------------------------------------------------------------------------------
 
@@ -64,55 +58,44 @@ unfolding placed
 written-counter d s fill c [] l w = absurd (omega arith)
 written-counter d s fill c (b ∷ bs) l w = rw (ne-eqb (W s) 0 (omega arith))
 
-behind-length : (a e : ℕ) (bs : List (List ℕ)) → length (placedBehind a e bs) ≡ length bs
-unfolding placedBehind
-behind-length a e [] = refl
-behind-length a e (b ∷ bs) = ap suc (behind-length a _ bs)
-
-placed-length : (s : Setting) (fill c : ℕ) (bs : List (List ℕ)) → length (placed s fill c bs) ≡ length bs
+pub placed-length : (s : Setting) (fill c : ℕ) (bs : List (List ℕ)) → length (placed s fill c bs) ≡ length bs
 unfolding placed
 placed-length s fill c [] = refl
-placed-length s fill c (b ∷ bs) = ap suc (behind-length (s .align) _ bs)
+placed-length s fill c (b ∷ bs) =
+    let ms = placedBehind (s .align) (H s + length b) bs in
+    ap suc (sym (length-map ms (λ m. m .packet)) ∙ ap length (behind-packets (s .align) (H s + length b) bs))
 
 ---- What was written -----------------------------------------------------------------------------------------------------------
 
--- a refusal has one of document 01's numbers
-pub write-number : {s : Setting} {bs ns : List ℕ} {c fill : ℕ} {k n p : ℕ} → WriteRefusal s bs ns c fill k n p → (0 < n) × (n ≤ 8)
-write-number (WriteRefusal.setting e) = omega arith
-write-number (WriteRefusal.counter x) = omega arith
-write-number (WriteRefusal.mismatch r m) = omega arith
-write-number (WriteRefusal.empty r e) = omega arith
-write-number (WriteRefusal.several r l h) = omega arith
-write-number (WriteRefusal.unfit r m k l f u) = omega arith
-write-number (WriteRefusal.room r m k f h) = omega arith
-
 module _ (s : Setting) (bs ns : List ℕ) (c fill : ℕ) (out : List ℕ) where
-  abbrev bytes : List ℕ
-  bytes = frame s fill c (packets ns bs)
-
   abbrev wrong : Bool
   wrong = mismatched ns bs || miscounted s ns
 
   abbrev index : ℕ
   index = first (misfit s) (spans s ns)
 
-  abbrev after : ℕ
-  after = later (W s) (moved (length ns)) c
+  -- the call as every writer weighs it
+  abbrev call : Call
+  call =
+      record {
+        sound = sound s;
+        held = holds (W s) c;
+        mismatch = wrong;
+        index = index;
+        count = length ns;
+        bytes = frame s fill c (packets ns bs);
+        next = later (W s) (moved (length ns)) c;
+      }
 
-  accepted : {k d : ℕ} → writeOf s bs ns c fill out .answer ≡ W.Bytes k d
-      → Written (sound s) (holds (W s) c) wrong index (length ns) bytes (length out) after k d
+  accepted : {k d : ℕ} → writeOf s bs ns c fill out .answer ≡ W.Bytes k d → Written call (length out) k d
   unfolding writeOf composed
-  accepted e = why-written (sound s) (holds (W s) c) wrong index (length ns) bytes out after e
+  accepted e = why-written call out e
 
   -- what stands at the front of the output is what was composed, and the rest of the output is as it was
   pub written-front : (k d : ℕ) → writeOf s bs ns c fill out .answer ≡ W.Bytes k d
-      → take k (writeOf s bs ns c fill out .lent) ≡ frame s fill c (packets ns bs)
+      → (take k (writeOf s bs ns c fill out .lent) ≡ frame s fill c (packets ns bs)) × (drop k (writeOf s bs ns c fill out .lent) ≡ drop k out)
   unfolding writeOf composed
-  written-front k d e = wrote-front (sound s) (holds (W s) c) wrong index (length ns) bytes out after (accepted e)
-
-  pub written-past : (k d : ℕ) → writeOf s bs ns c fill out .answer ≡ W.Bytes k d → drop k (writeOf s bs ns c fill out .lent) ≡ drop k out
-  unfolding writeOf composed
-  written-past k d e = kept-past (sound s) (holds (W s) c) wrong index (length ns) bytes out after (accepted e)
+  written-front k d e = wrote-front call out e
 
   -- the spans before the least index that does not fit do
   fitting : (i : ℕ) → i ≤ index → (j : ℕ) → j < i → Fit s (span s ns j)
@@ -134,7 +117,7 @@ module _ (s : Setting) (bs ns : List ℕ) (c fill : ℕ) (out : List ℕ) where
   written-laid k d e =
       let w = accepted e in
       let (some, one, fits) = taken e in
-      rw (written-front k d e) (written s (w .ready .setting) fill c (w .ready .counter) (packets ns bs) some one fits)
+      rw (written-front k d e .0) (written s (w .ready .setting) fill c (w .ready .counter) (packets ns bs) some one fits)
 
   -- and no frame of those packets is shorter
   pub written-least : (k d : ℕ) → writeOf s bs ns c fill out .answer ≡ W.Bytes k d
@@ -143,24 +126,6 @@ module _ (s : Setting) (bs ns : List ℕ) (c fill : ℕ) (out : List ℕ) where
       let (some, one, fits) = taken e in
       rw (accepted e .count) (frame-shortest s fill c (packets ns bs) t some one fits f)
 
-  -- and reads back as the same list, with every state that is not refused and every table that has room. (`written-packets` and `written-packet`
-  -- say which packets those are)
-  pub round-trip : (k d : ℕ) → writeOf s bs ns c fill out .answer ≡ W.Bytes k d
-      → (e : Counter) (rows : List ℕ) → valid (W s) e ≡ true → 5 * length ns ≤ length rows
-      → (readOf s (take k (writeOf s bs ns c fill out .lent)) e rows .answer
-      ≡ R.Rows (length ns) (frameState (W s) e (placed s fill c (packets ns bs))))
-      × (take (5 * length ns) (readOf s (take k (writeOf s bs ns c fill out .lent)) e rows .lent)
-      ≡ frameTable (s .direction) (W s) e (placed s fill c (packets ns bs)))
-  round-trip k d w e rows v l =
-      let t : List ℕ = take k (writeOf s bs ns c fill out .lent) in
-      let ms : List Msg = placed s fill c (packets ns bs) in
-      let x : Frame s ms t = written-laid k d w in
-      let n : length ms ≡ length ns = placed-length s fill c (packets ns bs) ∙ length-packets ns bs in
-      let f : Fine s e = record { setting = x .setting; counter = v } in
-      let a : ReadAccept s t e (length rows) (length ns) (frameState (W s) e ms) =
-      record { fine = f; messages = ms; whole = x; room = omega arith; count = sym n; left = refl } in
-      (accepted-exactly s t e rows (length ns) (frameState (W s) e ms) .1 a, rw n at (accepted-rows s t e rows ms f x (omega arith) .0))
-
   ---- Refused exactly when -------------------------------------------------------------------------------------------------------
 
   by-count : Willing s c → Miscount s ns bs → WriteRefusal s bs ns c fill (length out) 2 0
@@ -168,8 +133,7 @@ module _ (s : Setting) (bs ns : List ℕ) (c fill : ℕ) (out : List ℕ) where
   by-count r (Miscount.none e) = WriteRefusal.empty r e
   by-count r (Miscount.several l h) = WriteRefusal.several r l h
 
-  by-table : {n p : ℕ} → Unwritten (sound s) (holds (W s) c) wrong index (length ns) bytes (length out) n p
-      → WriteRefusal s bs ns c fill (length out) n p
+  by-table : {n p : ℕ} → Unwritten call (length out) n p → WriteRefusal s bs ns c fill (length out) n p
   by-table (Unwritten.unsound e) = WriteRefusal.setting e
   by-table (Unwritten.over e) = WriteRefusal.counter (exceeds (W s) c e)
   by-table (Unwritten.mismatched r m) = by-count r (why-passed (count-tells s ns bs) m)
@@ -194,8 +158,7 @@ module _ (s : Setting) (bs ns : List ℕ) (c fill : ℕ) (out : List ℕ) where
       let x : index ≡ length (spans s ns) = index-none (misfit s) (misfit-tells s) noSpan (spans s ns) (not-both-fit s) (rw n f) in
       omega arith
 
-  to-table : {n p : ℕ} → WriteRefusal s bs ns c fill (length out) n p
-      → Unwritten (sound s) (holds (W s) c) wrong index (length ns) bytes (length out) n p
+  to-table : {n p : ℕ} → WriteRefusal s bs ns c fill (length out) n p → Unwritten call (length out) n p
   to-table (WriteRefusal.setting e) = Unwritten.unsound e
   to-table (WriteRefusal.counter x) = Unwritten.over (not-held (W s) c x)
   to-table (WriteRefusal.mismatch r m) = Unwritten.mismatched r (wrong-is (Miscount.mismatch m))
@@ -207,24 +170,13 @@ module _ (s : Setting) (bs ns : List ℕ) (c fill : ℕ) (out : List ℕ) where
       rw (← x) (Unwritten.misfit r (right-is m k) (omega arith))
   to-table (WriteRefusal.room r m k f h) = Unwritten.crowded r (right-is m k) (all-fit f) h
 
-  pub write-refused-exactly : (n p : ℕ)
-      → (writeOf s bs ns c fill out .answer ≡ W.Refused n p) ↔ WriteRefusal s bs ns c fill (length out) n p
+  pub write-exact : Exact W.Refused W.Bytes (WriteRefusal s bs ns c fill (length out)) (WriteAccept s bs ns c fill (length out)) out
+      (writeOf s bs ns c fill out)
   unfolding writeOf composed
-  write-refused-exactly n p =
-      exactly-unwritten (sound s) (holds (W s) c) wrong index (length ns) bytes out after by-table to-table
-
-  -- a refusal leaves the output and the counter
-  pub write-refused-keeps : 0 < writeNumber (writeOf s bs ns c fill out .answer)
-      → (writeOf s bs ns c fill out .lent ≡ out) × (writeCounter c (writeOf s bs ns c fill out .answer) ≡ c)
-  unfolding writeOf composed
-  write-refused-keeps = write-keeps (sound s) (holds (W s) c) wrong index (length ns) bytes out after c
-
-  pub written-exactly : (k d : ℕ) → (writeOf s bs ns c fill out .answer ≡ W.Bytes k d) ↔ WriteAccept s bs ns c fill (length out) k d
-  unfolding writeOf composed
-  written-exactly k d = exactly-written (sound s) (holds (W s) c) wrong index (length ns) bytes out after from to
+  write-exact = writer call out (λ n p. by-table) (λ n p. to-table) takes answers
     where
-      from : Written (sound s) (holds (W s) c) wrong index (length ns) bytes (length out) after k d → WriteAccept s bs ns c fill (length out) k d
-      from w =
+      takes : (k d : ℕ) → Written call (length out) k d → WriteAccept s bs ns c fill (length out) k d
+      takes k d w =
           let r : Rightly s ns bs = why-failed (count-tells s ns bs) (w .matched) in
           record {
             willing = w .ready;
@@ -237,8 +189,8 @@ module _ (s : Setting) (bs ns : List ℕ) (c fill : ℕ) (out : List ℕ) where
             next = w .counter;
           }
 
-      to : WriteAccept s bs ns c fill (length out) k d → Written (sound s) (holds (W s) c) wrong index (length ns) bytes (length out) after k d
-      to w =
+      answers : (k d : ℕ) → WriteAccept s bs ns c fill (length out) k d → Written call (length out) k d
+      answers k d w =
           record {
             ready = w .willing;
             matched = right-is (w .matched) (w .counted);

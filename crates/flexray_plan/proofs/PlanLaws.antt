@@ -1,14 +1,11 @@
 -- A sound setting's plan: the numbers of its header.
-use Prim.Native.Nat.{ℕ, _+_, _<_}
+use Prim.Native.Nat.{_+_}
 use native.Mathlib.Omega.{arith}
 use mathlib.Core.Path.{_≡_, refl}
-use mathlib.Core.Bool.{true, false, _||_}
+use mathlib.Core.Bool.{true, false}
 use mathlib.Core.List.{[]}
-use lib.Dec.{eqb}
-use borrow.Author.Tests.{ltb-true, eqb-true, ne-eqb}
+use borrow.Author.Tests.{ltb-true}
 use Rattle.layout.specs.Field.{shape, size, place, width, Name.LEN, Name.CTR}
-use Rattle.layout.proofs.FieldLaws.{inside}
-use Rattle.layout.proofs.TableLaws.{all-given}
 use Rattle.layout.proofs.TestLaws.{and-left, and-right}
 use Rattle.flexray.specs.declared.Entry.{Entry}
 use Rattle.flexray.specs.declared.Setting.{Setting}
@@ -17,38 +14,22 @@ use Rattle.flexray.proofs.AlignLaws.{among-header}
 use Rattle.flexray.proofs.SettingLaws.{good}
 use Rattle.plan.specs.declared.Plan.{Plan}
 use Rattle.plan.specs.declared.Planned.the-variants as P
-use Rattle.plan.proofs.PlanLaws.{was-sound, was-unsound}
-use Rattle.flexray_plan.specs.Plan.{setting, planOf, plannedOf, goes, EntryOf, Ready}
+use Rattle.plan.specs.Plan.{Sized}
+use Rattle.plan.proofs.PlanLaws.{was-sound, was-unsound, where-some}
+use Rattle.flexray_plan.specs.Plan.{setting, planOf, plannedOf, furtherOf, goes, EntryOf, Ready}
 
 pub goes-is : {s : Setting} {h : Entry} → EntryOf s h → goes (s .align) h ≡ among (s .align) (header (s .header) .aligns)
 goes-is {s} e = rw (e .is, among-header (s .header) (s .align))
 
--- in every header CTR stands behind NAX, and LEN last
-record Ended (n : ℕ) : Type 0 where
-  second : 0 < width CTR (header n .fields) → place CTR (header n .fields) ≡ 1
-  last : 0 < width LEN (header n .fields) → place LEN (header n .fields) + 1 ≡ size (header n .fields)
-
-ended : (n : ℕ) → Ended n
-unfolding headers
-ended n =
-    let none : Header = record { fields = []; aligns = [] } in
-    let t = all-given (λ h. eqb (width CTR (h .fields)) 0 || eqb (place CTR (h .fields)) 1) none headers n refl refl in
-    let u = all-given (λ h. eqb (width LEN (h .fields)) 0 || eqb (place LEN (h .fields) + 1) (size (h .fields))) none headers n refl refl in
-    record {
-      second = λ l. eqb-true _ _ (rw (ne-eqb (width CTR (header n .fields)) 0 (omega arith)) at t);
-      last = λ l. eqb-true _ _ (rw (ne-eqb (width LEN (header n .fields)) 0 (omega arith)) at u);
-    }
-
 ready : (s : Setting) → sound s ≡ true → Ready (planOf s (shape (fields s)))
-unfolding sound
+unfolding headers sound
 ready s e =
     let g = good s e in
+    let none : Header = record { fields = []; aligns = [] } in
     record {
       ok = e;
       size = refl;
-      lenat = refl;
       lenwidth = refl;
-      ctrat = refl;
       ctrwidth = refl;
       naxat = g .naxat;
       naxwidth = g .naxwidth;
@@ -60,12 +41,28 @@ ready s e =
       size-least = g .head;
       size-most = g .small;
       len-narrow = g .lens;
-      len-inside = inside LEN (fields s);
       ctr-narrow = g .ctrs;
-      ctr-inside = inside CTR (fields s);
-      ctr-second = ended (s .header) .second;
-      len-last = ended (s .header) .last;
+      ctr-second = where-some none headers (λ h. width CTR (h .fields)) (λ h. place CTR (h .fields)) (λ h. 1) refl refl (s .header);
+      len-last =
+          where-some none headers (λ h. width LEN (h .fields)) (λ h. place LEN (h .fields) + 1) (λ h. size (h .fields)) refl refl (s .header);
+      apart = g .apart;
+      whole = g .whole;
       way = ltb-true (s .direction) 2 (search (and-left, and-right));
+    }
+
+-- the plan of the packets behind a frame's first
+pub further-sized : {p : Plan} → Ready p → Sized (furtherOf p)
+further-sized k =
+    record {
+      aligned = k .aligned;
+      size-least = omega arith;
+      size-most = omega arith;
+      len-narrow = omega arith;
+      ctr-narrow = omega arith;
+      fields = omega arith;
+      cut-least = k .ceiling-least;
+      cut-most = omega (arith, k .ceiling-most);
+      way = k .way;
     }
 
 -- the plan of a setting that is sound

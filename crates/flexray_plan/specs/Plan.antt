@@ -46,9 +46,7 @@ furtherOf p =
       direction = p .direction;
       node = p .node;
       size = 1;
-      lenat = 0;
       lenwidth = 1;
-      ctrat = 1;
       ctrwidth = 0;
     }
 
@@ -64,9 +62,7 @@ pub record EntryOf (s : Setting) (h : Entry) : Type 0 where
 pub record Ready (p : Plan) : Type 0 where
   pub ok : sound (setting p) ≡ true
   pub size : p .size ≡ H (setting p)
-  pub lenat : p .lenat ≡ place LEN (fields (setting p))
   pub lenwidth : p .lenwidth ≡ L (setting p)
-  pub ctrat : p .ctrat ≡ place CTR (fields (setting p))
   pub ctrwidth : p .ctrwidth ≡ W (setting p)
   -- NAX is the header's first byte
   pub naxat : place NAX (fields (setting p)) ≡ 0
@@ -79,12 +75,13 @@ pub record Ready (p : Plan) : Type 0 where
   pub size-least : 1 ≤ p .size
   pub size-most : p .size ≤ 4
   pub len-narrow : p .lenwidth ≤ 1
-  pub len-inside : p .lenat + p .lenwidth ≤ p .size
   pub ctr-narrow : p .ctrwidth ≤ 1
-  pub ctr-inside : p .ctrat + p .ctrwidth ≤ p .size
   -- CTR stands behind NAX, and LEN last
-  pub ctr-second : 0 < p .ctrwidth → p .ctrat ≡ 1
-  pub len-last : 0 < p .lenwidth → p .lenat + 1 ≡ p .size
+  pub ctr-second : 0 < p .ctrwidth → place CTR (fields (setting p)) ≡ 1
+  pub len-last : 0 < p .lenwidth → place LEN (fields (setting p)) + 1 ≡ p .size
+  -- NAX, CTR and LEN have room, and the first packet starts at a multiple of the alignment
+  pub apart : 1 + p .ctrwidth + p .lenwidth ≤ p .size
+  pub whole : p .size % p .align ≡ 0
   pub way : p .direction < 2
 
 -- where a packet starts behind one that ends at e

@@ -64,9 +64,7 @@ pub fn further(p: Plan) -> Plan
         direction: p.direction,
         node: p.node,
         size: 1,
-        lenat: 0,
         lenwidth: 1,
-        ctrat: 1,
         ctrwidth: 0,
     }
 }

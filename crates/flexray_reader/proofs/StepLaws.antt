@@ -1,13 +1,10 @@
 -- The one law of FlexRay about the step: behind a packet it tells what the definition says is ahead.
-use Prim.Native.Nat.{ℕ, _+_, _-_, _<_, _≤_, min}
+use Prim.Native.Nat.{ℕ, _+_, _-_, _<_, min}
 use native.Mathlib.Omega.{arith}
-use mathlib.Core.Path.{_≡_, refl, sym, _∙_}
-use mathlib.Core.Bool.{Bool, true, false}
+use mathlib.Core.Path.{_≡_, refl, _∙_}
 use mathlib.Core.List.{List}
-use lib.ListN.{length, getD, List·getD-eq-default}
-use lib.Dec.{leb}
-use borrow.Author.Tests.{leb-true, leb-false, eq-eqb, ne-eqb, lt-ltb, le-ltb}
-use Rattle.layout.specs.Multiple.{pad}
+use lib.ListN.{length, List·getD-eq-default}
+use borrow.Author.Tests.{le-leb, lt-leb, ne-eqb, lt-ltb, le-ltb}
 use Rattle.layout.specs.Walk.{after}
 use Rattle.layout.proofs.WalkLaws.{walk-eq}
 use Rattle.packet.specs.declared.At.{At}
@@ -15,13 +12,14 @@ use Rattle.packet.specs.declared.Seen.{Seen}
 use Rattle.packet.specs.declared.Seen.the-variants as S
 use Rattle.packet.specs.Seen.{asStep}
 use Rattle.plan.specs.declared.Plan.{Plan}
+use Rattle.plan.proofs.CaseLaws.{by-less}
 use Rattle.flexray.specs.Setting.{start}
 use Rattle.flexray.specs.Reading.{packetAt, nextLen, seen, step, ahead}
 use Rattle.flexray.proofs.ReadLaws.{forward}
 use Rattle.flexray_plan.specs.Plan.{setting, furtherOf}
 use Rattle.reading.specs.Loops.{Standing}
 use Rattle.reading.specs.Reads.{Tells}
-use Rattle.reading.specs.Step.{head, len, Says, View, View.rest, View.empty, View.nothing, View.over, View.past, View.message}
+use Rattle.reading.specs.Step.{head, len, View, View.rest, View.empty, View.nothing, View.over, View.past, View.message}
 use Rattle.reading.specs.Step.{seen as seenBy}
 use Rattle.reading.proofs.ViewLaws.{view}
 
@@ -36,34 +34,29 @@ module _ (p : Plan) (t : List ℕ) (a : At) (h : Stands t a) where
   unfolding start
   start-is = omega arith
 
-  len-is : nextLen (p .align) t (a .q) ≡ len (furtherOf p) t a
-  len-is = at (leb (head (furtherOf p) t a + 1) (min (a .end) (length t))) refl
-    where
-      x : start (p .align) (a .q) - 1 ≡ head (furtherOf p) t a
-      x = omega (arith, start-is)
+  before-start : start (p .align) (a .q) - 1 ≡ head (furtherOf p) t a
+  before-start = omega (arith, start-is)
 
-      at : (b : Bool) → leb (head (furtherOf p) t a + 1) (min (a .end) (length t)) ≡ b → nextLen (p .align) t (a .q) ≡ len (furtherOf p) t a
-      at true g = rw (x, g) (omega arith)
-      at false g =
-          let l = leb-false (head (furtherOf p) t a + 1) (min (a .end) (length t)) g in
-          let d = List·getD-eq-default t 0 {n = head (furtherOf p) t a} (omega (arith, h .end)) in
-          rw (x, g) d
+  len-is : nextLen (p .align) t (a .q) ≡ len (furtherOf p) t a
+  len-is =
+      by-less (min (a .end) (length t)) (head (furtherOf p) t a + 1)
+      (λ l. rw (before-start, lt-leb _ _ l) (List·getD-eq-default t 0 {n = head (furtherOf p) t a} (omega (arith, h .end))))
+      (λ l. rw (before-start, le-leb _ _ l) (omega arith))
 
   ahead-by : ahead (setting p) t (a .q) ≡ after (ahead (setting p) t) (asStep t (packetAt t S.Nothing (S.Refused 5 (head (furtherOf p) t a))
       (head (furtherOf p) t a + 1) (len (furtherOf p) t a) 0))
   unfolding ahead seen
   ahead-by =
-      let z : start (p .align) (a .q) - 1 ≡ head (furtherOf p) t a = omega (arith, start-is) in
       rw (
         walk-eq (step (setting p) t) (length t) (forward (setting p) t) (a .q),
         ne-eqb (a .q) 0 (omega (arith, h .begun)),
         len-is,
-        z,
+        before-start,
         start-is,
       )
 
   told : {v : Seen} → View (furtherOf p) t a v → Tells (ahead (setting p) t) (Stands t) t a v
-  told (rest r z l) = let i : _≡_ {A = ℕ} 0 1 = cc in absurd (omega arith)
+  told (rest g u z l) = absurd (omega arith)
   told (empty e z l) = absurd (omega arith)
   told (nothing z f g) = ahead-by ∙ rw z
   told (over y f l) = absurd (f refl)

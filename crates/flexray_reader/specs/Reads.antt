@@ -53,12 +53,13 @@ pub record Following (p : Plan) (t : List ℕ) (a : At) (c : Counter) (k n : ℕ
 
 -- a frame's rows at the front of a table, and the state behind it
 abbrev pub framing : Plan → List ℕ → Counter → List ℕ → Filled
-framing p t c rows = fillOf (frameTable (p .direction) (p .ctrwidth) c) (frameState (p .ctrwidth) c) rows 0 (ahead (setting p) t 0)
+framing p t c rows = fillOf (frameTable (p .direction) (p .ctrwidth) c) (frameState (p .ctrwidth) c) rows 0 (judged (setting p) t)
 
 -- a frame that was judged to have k rows, and a table of n numbers, which has room for them
 pub record Fillable (p : Plan) (t : List ℕ) (c : Counter) (k n : ℕ) : Type 0 where
   pub given : Given p t
   pub sane : Sane (p .ctrwidth) c
+  pub walked : judged (setting p) t ≡ ahead (setting p) t 0
   pub rows : Rows k ≡ counted 0 (ahead (setting p) t 0)
   pub few : k ≤ mostCeiling
   pub room : 5 * k ≤ n

@@ -1,3 +1,3 @@
-pub mod FirstLaws
 pub mod FrameLaws
+pub mod HeaderLaws
 pub mod WritesLaws

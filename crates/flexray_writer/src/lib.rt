@@ -1,16 +1,17 @@
 // The FlexRay writer: it sizes a frame, checks its inputs and the room, and writes it.
 ghost use mathlib.Core.Path.{_≡_};
-ghost use mathlib.Core.List.{_++_};
+ghost use mathlib.Core.Bool.{cond, _||_};
+ghost use lib.Dec.{ltb};
 ghost use lib.ListN.{length};
 ghost use lib.Seq.{sets};
 ghost use Rattle.packet.specs.Answer.{Gives};
+ghost use Rattle.packet.specs.Limit.{mostLengths};
 ghost use Rattle.packet.specs.Packets.{packets as packetsOf};
-ghost use Rattle.flexray.specs.Writing.{frame, byteAfter, evening, miscounted as miscountedOf, writeOf};
+ghost use Rattle.flexray.specs.Writing.{frame, evening, miscounted as miscountedOf, writeOf};
 ghost use Rattle.flexray_plan.specs.Plan.{setting, Ready};
 ghost use Rattle.writing.specs.Puts.{Wrote};
 ghost use Rattle.writing.specs.Sizes.{SizedAs};
-ghost use Rattle.flexray_writer.specs.Writes.{Sizing, Putting, headBytes, Leading, Ending, Evening};
-ghost use Rattle.flexray_writer.specs.Writes.{framed, Counted, Fitted, Roomy};
+ghost use Rattle.flexray_writer.specs.Writes.{Sizing, Putting, headBytes, Leading, Evening, Begun, Counted, Fitted, Roomy};
 use flexray::Setting;
 use flexray_plan::further;
 use flexray_plan::plan_for;
@@ -28,19 +29,18 @@ use plan::Planned;
 use rows::after;
 use rows::holds;
 use store::fill;
-use store::put_packet;
 use writing::Begin;
 use writing::Sized;
 use writing::put_loop;
 use writing::size_loop;
 
-// Whether the list is empty, or is not one packet without LEN.
+// Whether the list is empty or too long, or is not one packet without LEN.
 fn miscounted(p: Plan, lengths: &[u32]) -> bool
     requires { ⌜ Ready p ⌝ }
-    ensures { λ r. ⌜ r ≡ miscountedOf (setting p) (now (lengths .entry)) ⌝ }
+    ensures { λ r. ⌜ r ≡ (ltb mostLengths (length (now (lengths .entry))) || miscountedOf (setting p) (now (lengths .entry))) ⌝ }
 {
     let n = lengths.len();
-    either(n == 0, both(p.lenwidth == 0, n != 1))
+    either(4096 < n, either(n == 0, both(p.lenwidth == 0, n != 1)))
 }
 
 // Sizes packets from a place on, the end of the packet before. Where they are not aligned the compiler makes a loop that does not align.
@@ -49,13 +49,13 @@ fn size(p: Plan, q: usize, lengths: &[u32]) -> Sized
     ensures { λ r. ⌜ SizedAs p q (now (lengths .entry)) r ⌝ }
 {
     if p.align == 1 {
-        return size_loop(3, 1, 1, p, q, lengths);
+        return size_loop(3, 1, 0, 1, 1, p, q, lengths);
     }
-    size_loop(3, 1, p.align, p, q, lengths)
+    size_loop(3, 1, 0, 1, p.align, p, q, lengths)
 }
 
-// Writes packets behind the first one.
-fn put_others(p: Plan, b: Begin, packets: &[u8], lengths: &[u32], out: &mut [u8]) -> u32
+// Writes packets, each behind its LEN.
+fn put_packets(p: Plan, b: Begin, packets: &[u8], lengths: &[u32], out: &mut [u8]) -> u32
     requires { ⌜ Putting p b (now packets) (now lengths) (length (now out)) ⌝ }
     ensures { λ r. ⌜ Wrote p b (now (packets .entry)) (now (lengths .entry)) (now (out .entry)) (now (out .exit)) r ⌝ }
 {
@@ -65,55 +65,28 @@ fn put_others(p: Plan, b: Begin, packets: &[u8], lengths: &[u32], out: &mut [u8]
     put_loop(3, 1, 0, 1, p.align, p, b, packets, lengths, out)
 }
 
-// Writes the header and the first packet at the front: the node first, CTR behind it, LEN at the header's end, free bytes between.
-fn put_first(p: Plan, out: &mut [u8], packet: &[u8], ctr: u32, free: u8)
-    requires { ⌜ Leading p (now out) (now packet) ⌝ }
-    ensures { λ _. ⌜ now (out .exit) ≡ sets (now (out .entry)) 0
-        (headBytes (setting p) free ctr (length (now (packet .entry))) ++ now (packet .entry)) ⌝ }
+// Writes the header at the front: the node first, CTR behind it, LEN at the header's end, free bytes between.
+fn put_header(p: Plan, out: &mut [u8], n: usize, ctr: u32, free: u8)
+    requires { ⌜ Leading p (now out) ⌝ }
+    ensures { λ _. ⌜ now (out .exit) ≡ sets (now (out .entry)) 0 (headBytes (setting p) free ctr n) ⌝ }
 {
     fill(out, 0, p.size, free);
     put_field(out, 0, 1, p.node);
     put_field(out, 1, p.ctrwidth, wide32(ctr));
-    put_field(out, p.size - p.lenwidth, p.lenwidth, packet.len());
-    put_packet(out, p.size, packet);
+    put_field(out, p.size - p.lenwidth, p.lenwidth, n);
 }
 
-// Writes all packets, of which there are some, from the front on.
-fn put_all(
-    p: Plan,
-    packets: &[u8],
-    lengths: &[u32],
-    first: u32,
-    free: u8,
-    end: usize,
-    out: &mut [u8],
-)
-    requires { ⌜ Roomy p (now packets) (now lengths) first end (length (now out)) ⌝ }
-    ensures { λ _. ⌜ now (out .exit) ≡ sets (now (out .entry)) 0 (framed p free first (now (lengths .entry)) (now (packets .entry))) ⌝ }
+// The byte that evens a frame.
+fn even_byte(zero: bool, free: u8) -> u8
+    ensures { λ r. ⌜ r ≡ cond zero 0 free ⌝ }
 {
-    let one = wide32(lengths[0]);
-    put_first(p, out, &packets[0..one], first, free);
-    let b = Begin {
-        q: p.size + one,
-        ctr: 0,
-        free,
-    };
-    put_others(further(p), b, &packets[one..], &lengths[1..], out);
-}
-
-// The byte behind a last packet that ends at e: zero where the next LEN would stand, else free.
-fn byte_after(p: Plan, e: usize, free: u8) -> u8
-    requires { ⌜ Ending p e ⌝ }
-    ensures { λ r. ⌜ r ≡ byteAfter (setting p) free e ⌝ }
-{
-    let next = start(p.align, e);
-    if both(p.lenwidth != 0, next == e + 1) {
+    if zero {
         return 0;
     }
     free
 }
 
-// Makes a frame even whose last packet ends at e.
+// Makes a frame even whose last packet ends at e: the byte behind it is zero where the next LEN would stand, else free.
 fn put_evening(p: Plan, out: &mut [u8], e: usize, free: u8)
     requires { ⌜ Evening p (now out) e ⌝ }
     ensures { λ _. ⌜ now (out .exit) ≡ sets (now (out .entry)) e (evening (setting p) free e) ⌝ }
@@ -121,102 +94,78 @@ fn put_evening(p: Plan, out: &mut [u8], e: usize, free: u8)
     if e % 2 == 0 {
         return;
     }
-    out[e] = byte_after(p, e, free);
+    let next = start(p.align, e);
+    out[e] = even_byte(both(p.lenwidth != 0, next == e + 1), free);
 }
 
-// Writes packets of which the last ends at a place, and the byte that evens the frame.
-fn compose(
-    p: Plan,
-    packets: &[u8],
-    lengths: &[u32],
-    first: u32,
-    fill: u8,
-    end: usize,
-    out: &mut [u8],
-)
-    requires { ⌜ Roomy p (now packets) (now lengths) first end (length (now out)) ⌝ }
+// Writes packets of which the last ends at a place, the byte that evens the frame, and the header over what stands for the first packet's LEN.
+fn compose(p: Plan, b: Begin, packets: &[u8], lengths: &[u32], end: usize, out: &mut [u8])
+    requires { ⌜ Roomy p b (now packets) (now lengths) end (length (now out)) ⌝ }
     ensures { λ _. ⌜ now (out .exit) ≡ sets (now (out .entry)) 0
-        (frame (setting p) fill first (packetsOf (now (lengths .entry)) (now (packets .entry)))) ⌝ }
+        (frame (setting p) (b .free) (b .ctr) (packetsOf (now (lengths .entry)) (now (packets .entry)))) ⌝ }
 {
-    put_all(p, packets, lengths, first, fill, end, out);
-    put_evening(p, out, end, fill);
+    put_packets(further(p), b, packets, lengths, out);
+    put_evening(p, out, end, b.free);
+    put_header(p, out, wide32(lengths[0]), b.ctr, b.free);
 }
 
 // Lengths that fit: the last packet ends at a place.
 fn write_fitted(
     p: Plan,
+    b: Begin,
     packets: &[u8],
     lengths: &[u32],
-    first: u32,
-    fill: u8,
     end: usize,
     out: &mut [u8],
 ) -> Writing
-    requires { ⌜ Fitted p (now packets) (now lengths) first end ⌝ }
-    ensures { λ r. ⌜ Gives (writeOf (setting p) (now (packets .entry)) (now (lengths .entry)) first fill (now (out .entry)))
+    requires { ⌜ Fitted p b (now packets) (now lengths) end ⌝ }
+    ensures { λ r. ⌜ Gives (writeOf (setting p) (now (packets .entry)) (now (lengths .entry)) (b .ctr) (b .free) (now (out .entry)))
         r (now (out .exit)) ⌝ }
 {
     let whole = end + end % 2;
     if crowded(out.len(), whole) {
         return refuse(out, 4, 0);
     }
-    compose(p, packets, lengths, first, fill, end, out);
-    let next = after(p.ctrwidth, first);
+    compose(p, b, packets, lengths, end, out);
+    let next = after(p.ctrwidth, b.ctr);
     let count = whole as u32;
     Writing::Bytes(count, next)
 }
 
-// The lengths are sized before a byte is written, from the header's last byte on, which is the first packet's LEN. Their sum comes with their
-// sizes, unless one does not fit.
-fn write_sized(
-    p: Plan,
-    packets: &[u8],
-    lengths: &[u32],
-    first: u32,
-    fill: u8,
-    out: &mut [u8],
-) -> Writing
-    requires { ⌜ Counted p (now lengths) first ⌝ }
-    ensures { λ r. ⌜ Gives (writeOf (setting p) (now (packets .entry)) (now (lengths .entry)) first fill (now (out .entry)))
+// The lengths are sized before a byte is written. Their sum comes with their sizes, unless one does not fit.
+fn write_sized(p: Plan, b: Begin, packets: &[u8], lengths: &[u32], out: &mut [u8]) -> Writing
+    requires { ⌜ Counted p b (now lengths) ⌝ }
+    ensures { λ r. ⌜ Gives (writeOf (setting p) (now (packets .entry)) (now (lengths .entry)) (b .ctr) (b .free) (now (out .entry)))
         r (now (out .exit)) ⌝ }
 {
-    let z = size(further(p), p.size - 1, lengths);
+    let z = size(further(p), b.q, lengths);
     if z.taken < lengths.len() {
         return refuse_misfit(out, lengths, packets, z.taken);
     }
     if z.sum != packets.len() {
         return refuse(out, 2, 0);
     }
-    write_fitted(p, packets, lengths, first, fill, z.behind.q, out)
+    write_fitted(p, b, packets, lengths, z.behind.q, out)
 }
 
 // With a setting that is sound: the counter, then how many lengths there are.
-fn write_sound(
-    p: Plan,
-    packets: &[u8],
-    lengths: &[u32],
-    first: u32,
-    fill: u8,
-    out: &mut [u8],
-) -> Writing
-    requires { ⌜ Ready p ⌝ }
-    ensures { λ r. ⌜ Gives (writeOf (setting p) (now (packets .entry)) (now (lengths .entry)) first fill (now (out .entry)))
+fn write_sound(p: Plan, b: Begin, packets: &[u8], lengths: &[u32], out: &mut [u8]) -> Writing
+    requires { ⌜ Begun p b ⌝ }
+    ensures { λ r. ⌜ Gives (writeOf (setting p) (now (packets .entry)) (now (lengths .entry)) (b .ctr) (b .free) (now (out .entry)))
         r (now (out .exit)) ⌝ }
 {
-    if holds(p.ctrwidth, first) {
+    if holds(p.ctrwidth, b.ctr) {
         if miscounted(p, lengths) {
             return refuse(out, 2, 0);
         }
-        if 4096 < lengths.len() {
-            return refuse(out, 2, 0);
-        }
-        return write_sized(p, packets, lengths, first, fill, out);
+        return write_sized(p, b, packets, lengths, out);
     }
     refuse(out, 1, 0)
 }
 
 // Writes packets, given as joined bytes and lengths, as one frame of the least even length at the front of the output; or refuses, which
-// changes nothing. The frame carries the counter `first`; free bytes take the byte `fill`.
+// changes nothing. The frame carries the counter `first`; free bytes take the byte `fill`. The header's last byte is written as the first packet's
+// LEN, so that all packets are written alike.
 pub fn write(
     s: Setting,
     packets: &[u8],
@@ -228,7 +177,14 @@ pub fn write(
     ensures { λ r. ⌜ Gives (writeOf s (now (packets .entry)) (now (lengths .entry)) first fill (now (out .entry))) r (now (out .exit)) ⌝ }
 {
     match plan_for(s) {
-        Planned::Sound(p) => write_sound(p, packets, lengths, first, fill, out),
+        Planned::Sound(p) => {
+            let b = Begin {
+                q: p.size - 1,
+                ctr: first,
+                free: fill,
+            };
+            write_sound(p, b, packets, lengths, out)
+        }
         Planned::Unsound => refuse(out, 1, 0),
     }
 }

@@ -1,5 +1,6 @@
 -- What a byte says as a digit, by the ranges of digits and of what lies between them.
 use Prim.Native.Nat.{ℕ, suc, _-_, _<_, _≤_}
+use borrow.Author.Needs.{needs}
 use native.Mathlib.Omega.{arith}
 use mathlib.Core.Path.{_≡_}
 use mathlib.Core.Bool.{true, false, _&&_}
@@ -37,3 +38,5 @@ module _ {b : ℕ} where
 
   pub above : 103 ≤ b → 16 ≡ digit b
   above h = rw (over 48 57 b (omega arith) (omega arith), over 65 70 b (omega arith) (omega arith), over 97 102 b (omega arith) h)
+
+pub ruleset digits = (needs, decimal, capital, small, below, between, amid, above)

@@ -1,5 +1,6 @@
 -- Digits only add to a number: what is beyond the most stays beyond it, so that a reader may stop counting there.
 use Prim.Native.Nat.{ℕ, suc, _+_, _-_, _*_, _<_, _≤_}
+use borrow.Author.Needs.{needs}
 use native.Mathlib.Omega.{arith}
 use native.Mathlib.Nat.{le-mul-of-pos-right, mul-le-mul}
 use native.Mathlib.Numerals.{add-one}
@@ -18,19 +19,17 @@ use Rattle.keywords.specs.Counting.{every, counted, hexadecimal, Countin
 use Rattle.keywords.specs.declared.Meant.{Meant}
 use Rattle.keywords.specs.declared.Meant.the-variants.{Nothing, Value}
 
-pub grows : (base n : ℕ) (t : Text) → 0 < base → n ≤ value base n t
+grows : (base n : ℕ) (t : Text) → 0 < base → n ≤ value base n t
 grows base n [] h = omega arith
 grows base n (b ∷ t) h =
     let k : n ≤ n * base = le-mul-of-pos-right n h in
     omega (arith, grows base (n * base + digit b) t h)
 
-pub beyond : (base most n : ℕ) (t : Text) → 0 < base → most < n → leb (value base n t) most ≡ false
+beyond : (base most n : ℕ) (t : Text) → 0 < base → most < n → leb (value base n t) most ≡ false
 beyond base most n t h k = lt-leb (value base n t) most (omega (arith, grows base n t h))
 
-pub times : {base most n : ℕ} → Base base → n ≤ most → most < 4294967296 → n * base ≤ 68719476720
-times {n = n} h k m =
-    let small : n ≤ 4294967295 = omega arith in
-    mul-le-mul small (h .most)
+times : {base most n : ℕ} → Base base → n ≤ most → n * base ≤ 16 * most
+times {base} {most} {n} h k = omega (arith, mul-le-mul k (h .most))
 
 and-true : (a : Bool) → a ≡ (a && true)
 and-true true = refl
@@ -65,10 +64,16 @@ count-none base most t from to e = rw (e, slice-empty to t)
 
 -- place by place
 module _ {base most : ℕ} {t : Text} {from to : ℕ} where
-  pub count-first : from < to → to ≤ length t → Counting base most t from to 0 from
-  count-first h k =
-      let e = slice-cons from to t 0 h k in
-      record { upto = omega arith; inside = k; small = omega arith; is = rw e (based-counted base most (getD t from 0) (slice (suc from) to t)) }
+  pub count-first : from ≤ to → (from ≡ to → ⊥) → to ≤ length t → Counting base most t from to 0 from
+  count-first l u k =
+      let e = slice-cons from to t 0 (omega arith) k in
+      record {
+        upto = l;
+        inside = k;
+        small = omega arith;
+        wide = omega arith;
+        is = rw e (based-counted base most (getD t from 0) (slice (suc from) to t));
+      }
 
   module _ {n i d : ℕ} (c : Counting base most t from to n i) (h : i < to) (e : d ≡ digit (getD t i 0)) where
     count-at : based base most (slice from to t) ≡ counted base most n (getD t i 0 ∷ slice (suc i) to t)
@@ -80,12 +85,13 @@ module _ {base most : ℕ} {t : Text} {from to : ℕ} where
     pub count-beyond : Base base → most < n * base + d → Nothing ≡ told (based base most (slice from to t))
     count-beyond b k = ap told (sym (count-at ∙ counted-beyond base most n (getD t i 0) (slice (suc i) to t) (b .some) (rw e at k)))
 
-    pub count-on : d < base → n * base + d ≤ most → Counting base most t from to (n * base + d) (i + 1)
-    count-on k m =
+    pub count-on : Base base → d < base → n * base + d ≤ most → Counting base most t from to (n * base + d) (i + 1)
+    count-on b k m =
         record {
           upto = omega arith;
           inside = c .inside;
           small = m;
+          wide = times b m;
           is = count-at ∙ rw (e, add-one i) (counted-on base most n (getD t i 0) (slice (suc i) to t) (rw e at k));
         }
 
@@ -112,28 +118,33 @@ long [] e = absurd (true≢false (sym e))
 long (a ∷ []) e = absurd (true≢false (sym e))
 long (a ∷ b ∷ t) e = omega arith
 
-module _ (t : Text) (from to : ℕ) (inside : to ≤ length t) where
-  two : from + 2 ≤ to → slice from to t ≡ getD t from 0 ∷ getD t (suc from) 0 ∷ slice (from + 2) to t
-  two h =
-      let e : suc (suc from) ≡ from + 2 = omega arith in
-      rw (slice-cons from to t 0 (omega arith) inside, slice-cons (suc from) to t 0 (omega arith) inside, e)
+two : (t : Text) (from to : ℕ) → to ≤ length t → from + 2 ≤ to
+    → slice from to t ≡ getD t from 0 ∷ getD t (suc from) 0 ∷ slice (from + 2) to t
+two t from to inside h =
+    let e : suc (suc from) ≡ from + 2 = omega arith in
+    rw (slice-cons from to t 0 (omega arith) inside, slice-cons (suc from) to t 0 (omega arith) inside, e)
 
+module _ (t : Text) (from to : ℕ) (inside : to ≤ length t) where
   pub hex-none : to - from < 2 → false ≡ hexadecimal (slice from to t)
   hex-none h = short (slice from to t) (omega (arith, length-slice from to t inside))
 
-  pub hex-room : hexadecimal (slice from to t) ≡ true → from + 2 ≤ to
-  hex-room e = omega (arith, long (slice from to t) e, length-slice from to t inside)
+  pub hex-room : {b : Bool} → b ≡ hexadecimal (slice from to t) → b ≡ true → from + 2 ≤ to
+  hex-room f g = let e : hexadecimal (slice from to t) ≡ true = sym f ∙ g in omega (arith, long (slice from to t) e, length-slice from to t inside)
 
-pub hex-same : (t : Text) (from to : ℕ) → to ≤ length t → from + 2 ≤ to
-    → same (slice from (from + 2) t) (ascii "0x") ≡ hexadecimal (slice from to t)
-hex-same t from to h k =
-    rw (two t from (from + 2) (omega arith) (omega arith), slice-empty (from + 2) t, two t from to h k)
-    (ap (eqb (getD t from 0) 48 &&_) (sym (and-true (eqb (getD t (suc from) 0) 120))))
+  pub hex-same : {r : Bool} → r ≡ same (slice from (from + 2) t) (ascii "0x") → 2 ≤ to - from → r ≡ hexadecimal (slice from to t)
+  hex-same e h =
+      let k : from + 2 ≤ to = omega arith in
+      e ∙ rw (two t from (from + 2) (omega arith) (omega arith), slice-empty (from + 2) t, two t from to inside k)
+      (ap (eqb (getD t from 0) 48 &&_) (sym (and-true (eqb (getD t (suc from) 0) 120))))
 
 -- a number by its base
-module _ (t : Text) (from to : ℕ) {r : Meant} where
-  pub number-hex : hexadecimal (slice from to t) ≡ true → r ≡ told (based 16 65535 (slice (from + 2) to t)) → r ≡ told (number (slice from to t))
-  number-hex h e = rw (number-by (slice from to t), h, drop-drop 2 from (take to t)) e
+module _ (t : Text) (from to : ℕ) {r : Meant} {b : Bool} (e : b ≡ hexadecimal (slice from to t)) where
+  pub number-hex : b ≡ true → r ≡ told (based 16 65535 (slice (from + 2) to t)) → r ≡ told (number (slice from to t))
+  number-hex h i = rw (number-by (slice from to t), ← e, h, drop-drop 2 from (take to t)) i
 
-  pub number-plain : hexadecimal (slice from to t) ≡ false → r ≡ told (based 10 65535 (slice from to t)) → r ≡ told (number (slice from to t))
-  number-plain h e = rw (number-by (slice from to t), h) e
+  pub number-plain : b ≡ false → r ≡ told (based 10 65535 (slice from to t)) → r ≡ told (number (slice from to t))
+  number-plain h i = rw (number-by (slice from to t), ← e, h) i
+
+pub ruleset counts = (needs, count-none, count-first, count-other, count-beyond, count-on, count-end)
+
+pub ruleset numbers = (needs, hex-none, hex-room, hex-same, number-hex, number-plain)

@@ -1,5 +1,5 @@
 -- How the digits of a number are counted.
-use Prim.Native.Nat.{ℕ, suc, _<_, _≤_}
+use Prim.Native.Nat.{ℕ, suc, _*_, _<_, _≤_}
 use mathlib.Core.Path.{_≡_}
 use mathlib.Core.Bool.{Bool, true, false, cond, _&&_}
 use mathlib.Core.Option.{Option, none, some}
@@ -23,6 +23,7 @@ pub record Counting (base most : ℕ) (t : Text) (from to n i : ℕ) : Type 0 wh
   pub upto : i ≤ to
   pub inside : to ≤ length t
   pub small : n ≤ most
+  pub wide : n * base ≤ 16 * most
   pub is : based base most (slice from to t) ≡ counted base most n (slice i to t)
 
 -- whether 0x stands in front

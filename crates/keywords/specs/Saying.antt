@@ -27,6 +27,9 @@ abbrev pub told : Option ℕ → Meant
 told none = Nothing
 told (some n) = Value n
 
+pub record Tells (o : Option ℕ) (r : Meant) : Type 0 where
+  pub is : r ≡ told o
+
 -- what is said by a line, which is the word's or not, and the lines behind it, which say `rest`
 pub record Lined (is : Bool) (n : ℕ) (rest r : Meant) : Type 0 where
   pub line : r ≡ cond is (Value n) rest

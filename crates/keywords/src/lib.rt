@@ -5,7 +5,7 @@ ghost use lib.Seq.{slice};
 ghost use Rattle.words.specs.Words.{same as sameText};
 ghost use Rattle.keywords.specs.Tables.{header as headerOf, transfer as transferOf, packing as packingOf, alignment as alignmentOf};
 ghost use Rattle.keywords.specs.Tables.{digit as digitOf, based as basedOf, number as numberOf};
-ghost use Rattle.keywords.specs.Saying.{meaning, told, Lined};
+ghost use Rattle.keywords.specs.Saying.{meaning, told, Tells, Lined};
 ghost use Rattle.keywords.specs.Counting.{hexadecimal as hexadecimalOf, Base};
 
 // The two endpoints: CMD and STIM, from the master; RES, ERR, DAQ, EV and SERV, from the slave.
@@ -44,7 +44,7 @@ fn line(t: &[u8], from: usize, to: usize, word: &[u8], n: u32, rest: Meant) -> M
 
 fn header(t: &[u8], from: usize, to: usize) -> Meant
     requires { do ⌜ (from ≤ to) × (to ≤ (← ⟦t.len()⟧)) ⌝ }
-    ensures { λ r. ⌜ r ≡ told (headerOf (slice from to (now (t .entry)))) ⌝ }
+    ensures { λ r. ⌜ Tells (headerOf (slice from to (now (t .entry)))) r ⌝ }
 {
     let r = line(t, from, to, b"HEADER_LEN_FILL_WORD", 5, Meant::Nothing);
     let r = line(t, from, to, b"HEADER_LEN_CTR_WORD", 4, r);
@@ -56,7 +56,7 @@ fn header(t: &[u8], from: usize, to: usize) -> Meant
 
 fn transfer(t: &[u8], from: usize, to: usize) -> Meant
     requires { do ⌜ (from ≤ to) × (to ≤ (← ⟦t.len()⟧)) ⌝ }
-    ensures { λ r. ⌜ r ≡ told (transferOf (slice from to (now (t .entry)))) ⌝ }
+    ensures { λ r. ⌜ Tells (transferOf (slice from to (now (t .entry)))) r ⌝ }
 {
     let r = line(t, from, to, b"INTERRUPT_TRANSFER", 3, Meant::Nothing);
     line(t, from, to, b"BULK_TRANSFER", 2, r)
@@ -64,7 +64,7 @@ fn transfer(t: &[u8], from: usize, to: usize) -> Meant
 
 fn packing(t: &[u8], from: usize, to: usize) -> Meant
     requires { do ⌜ (from ≤ to) × (to ≤ (← ⟦t.len()⟧)) ⌝ }
-    ensures { λ r. ⌜ r ≡ told (packingOf (slice from to (now (t .entry)))) ⌝ }
+    ensures { λ r. ⌜ Tells (packingOf (slice from to (now (t .entry)))) r ⌝ }
 {
     let r = line(t, from, to, b"MESSAGE_PACKING_STREAMING", 2, Meant::Nothing);
     let r = line(t, from, to, b"MESSAGE_PACKING_MULTIPLE", 1, r);
@@ -73,7 +73,7 @@ fn packing(t: &[u8], from: usize, to: usize) -> Meant
 
 fn alignment(t: &[u8], from: usize, to: usize) -> Meant
     requires { do ⌜ (from ≤ to) × (to ≤ (← ⟦t.len()⟧)) ⌝ }
-    ensures { λ r. ⌜ r ≡ told (alignmentOf (slice from to (now (t .entry)))) ⌝ }
+    ensures { λ r. ⌜ Tells (alignmentOf (slice from to (now (t .entry)))) r ⌝ }
 {
     let r = line(t, from, to, b"ALIGNMENT_64_BIT", 8, Meant::Nothing);
     let r = line(t, from, to, b"ALIGNMENT_32_BIT", 4, r);

@@ -19,7 +19,7 @@ alignment a = eqb a 1 || eqb a 2 || eqb a 4 || eqb a 8
 -- what rounding up asks and tells
 pub record Roundable (a x : ℕ) : Type 0 where
   pub aligned : Aligned a
-  pub small : x ≤ 1000000
+  pub small : x ≤ 1000000000
 
 pub record Rounded (a x r : ℕ) : Type 0 where
   pub is : r ≡ x + pad a x

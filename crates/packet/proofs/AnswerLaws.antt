@@ -1,5 +1,5 @@
 -- What was judged decides the answer: why a call is refused, why it is not, and that a refusal changes nothing. Once for every reader and writer.
-use Prim.Native.Nat.{ℕ, _+_, _≤_}
+use Prim.Native.Nat.{ℕ, _+_, _<_, _≤_}
 use native.Mathlib.Omega.{arith}
 use native.Mathlib.Nat.{zero-add}
 use mathlib.Core.Path.{_≡_, refl, sym, ap, _∙_}
@@ -28,6 +28,15 @@ module _ {E : Type 0} {a : Answer E} where
   -- when the answer is x, any answer that a contract allows is
   pub exactly : {r : E} {left : List ℕ} → Gives a r left → {x : E} {P : Type 0} → (a .answer ≡ x) ↔ P → (r ≡ x) ↔ P
   exactly g e = (λ h. e .0 (sym (g .answer) ∙ h), λ p. g .answer ∙ e .1 p)
+
+-- What the laws of a transport say of the answer a of a call that was lent a table or an output: it is refused with n at p exactly where `Refusal n p` holds,
+-- that is with one of document 01's numbers, and leaves what was lent; it is accepted with k and d exactly where `Accept k d` holds
+pub record Exact {E C : Type 0} (refuse : ℕ → ℕ → E) (accept : ℕ → C → E) (Refusal : ℕ → ℕ → Type 0) (Accept : ℕ → C → Type 0)
+    (lent : List ℕ) (a : Answer E) : Type 0 where
+  pub refused : (n p : ℕ) → (a .answer ≡ refuse n p) ↔ Refusal n p
+  pub number : (n p : ℕ) → Refusal n p → (0 < n) × (n ≤ 8)
+  pub keeps : (n p : ℕ) → a .answer ≡ refuse n p → a .lent ≡ lent
+  pub accepted : (k : ℕ) (d : C) → (a .answer ≡ accept k d) ↔ Accept k d
 
 -- why a call is refused with n at p: it was judged so, or the lent numbers are too few
 pub data Unsettled {R : Type 0} (few : List R → Bool) : ℕ → ℕ → Out R → Type 0 where

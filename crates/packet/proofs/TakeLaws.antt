@@ -1,13 +1,12 @@
 -- Going through the lengths that a writer is given, one a turn: what is behind, and what is left of the lengths and of the joined bytes.
-use Prim.Native.Nat.{ℕ, suc, _+_, _-_, _<_, _≤_}
+use Prim.Native.Nat.{ℕ, _+_, _-_, _<_, _≤_}
 use native.Mathlib.Omega.{arith}
-use mathlib.Core.Path.{_≡_, refl, _∙_}
-use mathlib.Core.Bool.{Bool, true, false, cond}
+use mathlib.Core.Path.{_≡_}
 use mathlib.Core.List.{List, [], _∷_}
 use lib.ListN.{length, getD, take, drop, drop-of-length-le}
 use lib.Seq.{drop-drop}
 use Rattle.layout.proofs.PartLaws.{drop-next, long}
-use Rattle.packet.specs.Packets.{sum, packets, first}
+use Rattle.packet.specs.Packets.{sum, packets}
 
 -- the length at i, and that behind the last there is none
 pub here : (ns : List ℕ) (i : ℕ) {n : ℕ} → i < length ns → n ≡ getD ns i 0 → drop i ns ≡ n ∷ drop (i + 1) ns
@@ -48,39 +47,3 @@ module _ {bs ns : List ℕ} {from i : ℕ} (t : Taking bs ns from i) (l : i < le
     pub packets-on : {b : List ℕ} → b ≡ take n (drop from bs) → packets (drop i ns) (drop from bs) ≡ b ∷ packets (drop (i + 1) ns) (drop to bs)
     unfolding packets
     packets-on f = rw (here ns i l e, f, g, ← drop-drop n from bs)
-
----- A test that is to pass at none ---------------------------------------------------------------------------------------------
-
-module _ {A : Type 0} (f : A → Bool) where
-  -- the test passes at none of the i entries that are behind
-  pub record Passing (whole left : List A) (i : ℕ) : Type 0 where
-    pub is : first f whole ≡ i + first f left
-
-  pub passing : {whole left : List A} → whole ≡ left → Passing whole left 0
-  passing e = record { is = rw e (omega arith) }
-
-module _ {A : Type 0} {f : A → Bool} {whole left : List A} {i : ℕ} (p : Passing f whole left i) where
-  pub passing-next : {x : A} {xs : List A} → left ≡ x ∷ xs → f x ≡ false → Passing f whole xs (i + 1)
-  unfolding first
-  passing-next {x} {xs} e g = let h : first f whole ≡ i + suc (first f xs) = p .is ∙ rw (e, g) in record { is = omega arith }
-
-  pub passes-here : {x : A} {xs : List A} → left ≡ x ∷ xs → f x ≡ true → first f whole ≡ i
-  unfolding first
-  passes-here e g = let h : first f whole ≡ i + 0 = p .is ∙ rw (e, g) in omega arith
-
-  pub passes-none : left ≡ [] → first f whole ≡ i
-  unfolding first
-  passes-none e = let h : first f whole ≡ i + 0 = p .is ∙ rw e in omega arith
-
--- the test passes at none of these
-pub record Clear {A : Type 0} (f : A → Bool) (xs : List A) : Type 0 where
-  pub none : first f xs ≡ length xs
-
--- so neither at the first of them, nor at one behind it
-pub clear-head : {A : Type 0} {f : A → Bool} {xs : List A} → Clear f xs → {x : A} {ys : List A} → xs ≡ x ∷ ys → (f x ≡ false) × Clear f ys
-unfolding first
-clear-head {A} {f} {xs} c {x} {ys} e = at (f x) (rw e at (c .none))
-  where
-    at : (b : Bool) → cond b 0 (suc (first f ys)) ≡ suc (length ys) → (b ≡ false) × Clear f ys
-    at true e = absurd (omega arith)
-    at false e = (refl, record { none = omega arith })

@@ -9,25 +9,12 @@ use lib.Seq.{sets}
 use lib.Dec.{ltb}
 use borrow.Author.Tests.{ltb-true, ltb-false}
 use Rattle.layout.proofs.TestLaws.{or-left, or-right}
-use Rattle.packet.specs.declared.Writing.{Writing}
 use Rattle.packet.specs.declared.Writing.the-variants as W
-use Rattle.packet.specs.Answer.{Answer, Gives, Ready, writeRefused, stored, weighed, NoRoom, NoRoom.small, NoRoom.long}
+use Rattle.packet.specs.Answer.{Gives, Ready, writeRefused, NoRoom, NoRoom.small, NoRoom.long}
 use Rattle.packet.specs.Limit.{mostBytes}
 use Rattle.packet.proofs.AnswerLaws.{gives}
 use Rattle.packet.proofs.WriterLaws.{Unwritten, Written, unwritten, wrote}
-
--- a call: of `count` lengths the one at `index` is the first that does not fit; the bytes that it would write, and the next counter
-pub record Call : Type 0 where
-  pub sound : Bool
-  pub held : Bool
-  pub mismatch : Bool
-  pub index : ℕ
-  pub count : ℕ
-  pub bytes : List ℕ
-  pub next : ℕ
-
-abbrev pub answerOf : Call → List ℕ → Answer Writing
-answerOf w out = stored (w .next) out (weighed (w .sound) (w .held) (w .mismatch) (w .index) (w .count) (w .bytes))
+pub use Rattle.packet.proofs.WriterLaws.{Call, answerOf}
 
 -- the test of the room
 module _ (room n : ℕ) where
@@ -43,31 +30,27 @@ module _ (room n : ℕ) where
   has-room h = (ltb-false room n (or-left (ltb room n) (ltb mostBytes n) h), ltb-false mostBytes n (or-right (ltb room n) (ltb mostBytes n) h))
 
 module _ (w : Call) (out : List ℕ) where
-  refused-so : {n p : ℕ} → Unwritten (w .sound) (w .held) (w .mismatch) (w .index) (w .count) (w .bytes) (length out) n p
-      → answerOf w out ≡ writeRefused out n p
-  refused-so u = unwritten (w .sound) (w .held) (w .mismatch) (w .index) (w .count) (w .bytes) out (w .next) u
-
   pub unsound : w .sound ≡ false → answerOf w out ≡ writeRefused out 1 0
-  unsound e = refused-so (Unwritten.unsound e)
+  unsound e = unwritten w out (Unwritten.unsound e)
 
   pub over : w .held ≡ false → answerOf w out ≡ writeRefused out 1 0
-  over e = refused-so (Unwritten.over e)
+  over e = unwritten w out (Unwritten.over e)
 
   module _ (k : Ready (w .sound) (w .held)) where
     pub unmatched : w .mismatch ≡ true → answerOf w out ≡ writeRefused out 2 0
-    unmatched e = refused-so (Unwritten.mismatched k e)
+    unmatched e = unwritten w out (Unwritten.mismatched k e)
 
     module _ (m : w .mismatch ≡ false) where
       pub unfit : {i : ℕ} → w .index ≡ i → i < w .count → answerOf w out ≡ writeRefused out 3 i
-      unfit e l = refused-so (Unwritten.misfit k m (omega arith)) ∙ ap (writeRefused out 3) e
+      unfit e l = unwritten w out (Unwritten.misfit k m (omega arith)) ∙ ap (writeRefused out 3) e
 
       module _ (f : w .index ≡ w .count) {end : ℕ} (long : length (w .bytes) ≡ end) where
         pub crowded : ltb (length out) end || ltb mostBytes end ≡ true → answerOf w out ≡ writeRefused out 4 0
-        crowded h = refused-so (Unwritten.crowded k m (omega arith) (rw long (no-room (length out) end h)))
+        crowded h = unwritten w out (Unwritten.crowded k m (omega arith) (rw long (no-room (length out) end h)))
 
         pub written : end ≤ length out → end ≤ mostBytes → {new : List ℕ} {r : ℕ} → new ≡ sets out 0 (w .bytes) → r ≡ w .next
             → Gives (answerOf w out) (W.Bytes end r) new
         written a b {new} {r} x n =
-            let v : Written (w .sound) (w .held) (w .mismatch) (w .index) (w .count) (w .bytes) (length out) (w .next) end r =
+            let v : Written w (length out) end r =
             record { ready = k; matched = m; fit = omega arith; room = omega arith; most = omega arith; count = sym long; counter = n } in
-            gives (wrote (w .sound) (w .held) (w .mismatch) (w .index) (w .count) (w .bytes) out (w .next) v ∙ rw (long, n, x))
+            gives (wrote w out v ∙ rw x)

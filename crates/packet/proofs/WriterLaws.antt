@@ -2,9 +2,8 @@
 use Prim.Native.Nat.{ℕ, _<_, _≤_, min}
 use native.Mathlib.Omega.{arith}
 use mathlib.Core.Path.{_≡_, refl, ap}
-use mathlib.Core.Bool.{Bool, true, false, cond}
+use mathlib.Core.Bool.{Bool, true, false, cond, not, _&&_, and-false}
 use mathlib.Core.List.{List}
-use mathlib.Core.Logic.{_↔_}
 use lib.ListN.{length, take, drop}
 use lib.Seq.{sets}
 use lib.Dec.{ltb}
@@ -13,9 +12,9 @@ use Rattle.layout.specs.Walk.{Out, Out.list, Out.refused}
 use Rattle.layout.proofs.TestLaws.{Tells, Tells.passes, Tells.fails, why-passed, why-failed, passed, failed}
 use Rattle.packet.specs.declared.Writing.{Writing}
 use Rattle.packet.specs.declared.Writing.the-variants as W
-use Rattle.packet.specs.Answer.{Ready, writeNumber, writeCounter, fewBytes, stored, weighed, NoRoom, NoRoom.small, NoRoom.long}
+use Rattle.packet.specs.Answer.{Answer, Ready, writeRefused, fewBytes, stored, weighed, NoRoom, NoRoom.small, NoRoom.long}
 use Rattle.packet.specs.Limit.{mostBytes}
-use Rattle.packet.proofs.AnswerLaws.{Unsettled, Settled, Apart, refuses, accepts, why-refused, why-accepted, keeps, put-front, kept-behind}
+use Rattle.packet.proofs.AnswerLaws.{Exact, Unsettled, Settled, Apart, refuses, accepts, why-refused, why-accepted, keeps, put-front, kept-behind}
 
 apart-write : {next : ℕ} → Apart {R = ℕ} W.Refused (λ bs. W.Bytes (length bs) next)
 apart-write = record { number = λ e. cc; place = λ e. cc; never = λ e. let z : _≡_ {A = ℕ} 0 1 = cc in omega arith }
@@ -38,146 +37,145 @@ module _ (out bs : List ℕ) where
   no-room-fits (small h) l = omega arith
   no-room-fits (long h) l = omega arith
 
+-- a call: of `count` lengths the one at `index` is the first that does not fit; the bytes that it would write, and the next counter
+pub record Call : Type 0 where
+  pub sound : Bool
+  pub held : Bool
+  pub mismatch : Bool
+  pub index : ℕ
+  pub count : ℕ
+  pub bytes : List ℕ
+  pub next : ℕ
+
+abbrev composed : Call → Out ℕ
+composed w = weighed (w .sound) (w .held) (w .mismatch) (w .index) (w .count) (w .bytes)
+
+abbrev pub answerOf : Call → List ℕ → Answer Writing
+answerOf w out = stored (w .next) out (composed w)
+
 -- what was weighed, each with its reason
-data Weighed (sound held mismatch : Bool) (i n : ℕ) (bs : List ℕ) : Out ℕ → Type 0 where
-  unsound : sound ≡ false → Weighed sound held mismatch i n bs (refused 1 0)
-  over : held ≡ false → Weighed sound held mismatch i n bs (refused 1 0)
-  mismatched : Ready sound held → mismatch ≡ true → Weighed sound held mismatch i n bs (refused 2 0)
-  misfit : Ready sound held → mismatch ≡ false → i < n → Weighed sound held mismatch i n bs (refused 3 i)
-  fit : Ready sound held → mismatch ≡ false → n ≤ i → Weighed sound held mismatch i n bs (list bs)
+data Weighed (w : Call) : Out ℕ → Type 0 where
+  unsound : w .sound ≡ false → Weighed w (refused 1 0)
+  over : w .held ≡ false → Weighed w (refused 1 0)
+  mismatched : Ready (w .sound) (w .held) → w .mismatch ≡ true → Weighed w (refused 2 0)
+  misfit : Ready (w .sound) (w .held) → w .mismatch ≡ false → w .index < w .count → Weighed w (refused 3 (w .index))
+  fit : Ready (w .sound) (w .held) → w .mismatch ≡ false → w .count ≤ w .index → Weighed w (list (w .bytes))
 
-weighs : (sound held mismatch : Bool) (i n : ℕ) (bs : List ℕ) {o : Out ℕ} → Weighed sound held mismatch i n bs o
-    → weighed sound held mismatch i n bs ≡ o
+weighs : (w : Call) {o : Out ℕ} → Weighed w o → composed w ≡ o
 unfolding weighed
-weighs sound held mismatch i n bs (Weighed.unsound e) = rw e
-weighs true held mismatch i n bs (Weighed.over e) = rw e
-weighs false held mismatch i n bs (Weighed.over e) = refl
-weighs sound held mismatch i n bs (Weighed.mismatched r e) = rw (r .setting, r .counter, e)
-weighs sound held mismatch i n bs (Weighed.misfit r e l) = rw (r .setting, r .counter, e, lt-ltb i n l)
-weighs sound held mismatch i n bs (Weighed.fit r e l) = rw (r .setting, r .counter, e, le-ltb i n l)
+weighs w (Weighed.unsound e) = rw e
+weighs w (Weighed.over e) = rw (e, and-false (w .sound))
+weighs w (Weighed.mismatched r e) = rw (r .setting, r .counter, e)
+weighs w (Weighed.misfit r e l) = rw (r .setting, r .counter, e, lt-ltb (w .index) (w .count) l)
+weighs w (Weighed.fit r e l) = rw (r .setting, r .counter, e, le-ltb (w .index) (w .count) l)
 
-why-weighed : (sound held mismatch : Bool) (i n : ℕ) (bs : List ℕ)
-    → Weighed sound held mismatch i n bs (weighed sound held mismatch i n bs)
+why-weighed : (w : Call) → Weighed w (composed w)
 unfolding weighed
-why-weighed false held mismatch i n bs = Weighed.unsound refl
-why-weighed true false mismatch i n bs = Weighed.over refl
-why-weighed true true true i n bs = Weighed.mismatched (record { setting = refl; counter = refl }) refl
-why-weighed true true false i n bs = at (ltb i n) refl
+why-weighed w = at (w .sound) (w .held) (w .mismatch) (ltb (w .index) (w .count)) refl refl refl refl
   where
-    at : (b : Bool) → ltb i n ≡ b → Weighed true true false i n bs (cond b (refused 3 i) (list bs))
-    at true g = Weighed.misfit (record { setting = refl; counter = refl }) refl (ltb-true i n g)
-    at false g = Weighed.fit (record { setting = refl; counter = refl }) refl (ltb-false i n g)
+    at : (a b c d : Bool) → w .sound ≡ a → w .held ≡ b → w .mismatch ≡ c → ltb (w .index) (w .count) ≡ d
+        → Weighed w (cond (not (a && b)) (refused 1 0) (cond c (refused 2 0) (cond d (refused 3 (w .index)) (list (w .bytes)))))
+    at false b c d ga gb gc gd = Weighed.unsound ga
+    at true false c d ga gb gc gd = Weighed.over gb
+    at true true true d ga gb gc gd = Weighed.mismatched (record { setting = ga; counter = gb }) gc
+    at true true false true ga gb gc gd = Weighed.misfit (record { setting = ga; counter = gb }) gc (ltb-true (w .index) (w .count) gd)
+    at true true false false ga gb gc gd = Weighed.fit (record { setting = ga; counter = gb }) gc (ltb-false (w .index) (w .count) gd)
 
--- why a writer refuses with a number at a place: of n lengths the one at i is the first that does not fit
-pub data Unwritten (sound held mismatch : Bool) (i n : ℕ) (bs : List ℕ) (room : ℕ) : ℕ → ℕ → Type 0 where
-  unsound : sound ≡ false → Unwritten sound held mismatch i n bs room 1 0
-  over : held ≡ false → Unwritten sound held mismatch i n bs room 1 0
-  mismatched : Ready sound held → mismatch ≡ true → Unwritten sound held mismatch i n bs room 2 0
-  misfit : Ready sound held → mismatch ≡ false → i < n → Unwritten sound held mismatch i n bs room 3 i
-  crowded : Ready sound held → mismatch ≡ false → n ≤ i → NoRoom room (length bs) → Unwritten sound held mismatch i n bs room 4 0
+-- why a writer refuses with a number at a place
+pub data Unwritten (w : Call) (room : ℕ) : ℕ → ℕ → Type 0 where
+  unsound : w .sound ≡ false → Unwritten w room 1 0
+  over : w .held ≡ false → Unwritten w room 1 0
+  mismatched : Ready (w .sound) (w .held) → w .mismatch ≡ true → Unwritten w room 2 0
+  misfit : Ready (w .sound) (w .held) → w .mismatch ≡ false → w .index < w .count → Unwritten w room 3 (w .index)
+  crowded : Ready (w .sound) (w .held) → w .mismatch ≡ false → w .count ≤ w .index → NoRoom room (length (w .bytes)) → Unwritten w room 4 0
+
+-- a refusal has one of document 01's numbers
+unwritten-number : {w : Call} {room n p : ℕ} → Unwritten w room n p → (0 < n) × (n ≤ 8)
+unwritten-number (unsound e) = omega arith
+unwritten-number (over e) = omega arith
+unwritten-number (mismatched r e) = omega arith
+unwritten-number (misfit r e l) = omega arith
+unwritten-number (crowded r e l h) = omega arith
 
 -- why it accepts, with k bytes and the next counter d
-pub record Written (sound held mismatch : Bool) (i n : ℕ) (bs : List ℕ) (bytes next k d : ℕ) : Type 0 where
-  pub ready : Ready sound held
-  pub matched : mismatch ≡ false
-  pub fit : n ≤ i
-  pub room : length bs ≤ bytes
-  pub most : length bs ≤ mostBytes
-  pub count : k ≡ length bs
-  pub counter : d ≡ next
+pub record Written (w : Call) (bytes k d : ℕ) : Type 0 where
+  pub ready : Ready (w .sound) (w .held)
+  pub matched : w .mismatch ≡ false
+  pub fit : w .count ≤ w .index
+  pub room : length (w .bytes) ≤ bytes
+  pub most : length (w .bytes) ≤ mostBytes
+  pub count : k ≡ length (w .bytes)
+  pub counter : d ≡ w .next
 
-module _ (sound held mismatch : Bool) (i n : ℕ) (bs out : List ℕ) (next : ℕ) where
+module _ (w : Call) (out : List ℕ) where
   abbrev bytesTold : List ℕ → Writing
-  bytesTold xs = W.Bytes (length xs) next
+  bytesTold xs = W.Bytes (length xs) (w .next)
 
-  abbrev composed : Out ℕ
-  composed = weighed sound held mismatch i n bs
-
-  not-settled : {a b : ℕ} → Unwritten sound held mismatch i n bs (length out) a b → Unsettled (fewBytes out) a b composed
-  not-settled (unsound e) = rw (weighs sound held mismatch i n bs (Weighed.unsound e)) Unsettled.judged
-  not-settled (over e) = rw (weighs sound held mismatch i n bs (Weighed.over e)) Unsettled.judged
-  not-settled (mismatched r e) = rw (weighs sound held mismatch i n bs (Weighed.mismatched r e)) Unsettled.judged
-  not-settled (misfit r e l) = rw (weighs sound held mismatch i n bs (Weighed.misfit r e l)) Unsettled.judged
+  not-settled : {n p : ℕ} → Unwritten w (length out) n p → Unsettled (fewBytes out) n p (composed w)
+  not-settled (unsound e) = rw (weighs w (Weighed.unsound e)) Unsettled.judged
+  not-settled (over e) = rw (weighs w (Weighed.over e)) Unsettled.judged
+  not-settled (mismatched r e) = rw (weighs w (Weighed.mismatched r e)) Unsettled.judged
+  not-settled (misfit r e l) = rw (weighs w (Weighed.misfit r e l)) Unsettled.judged
   not-settled (crowded r e l h) =
-      rw (weighs sound held mismatch i n bs (Weighed.fit r e l)) (Unsettled.crowded (passed (no-room-fits out bs) (room-tells out bs) h))
+      rw (weighs w (Weighed.fit r e l)) (Unsettled.crowded (passed (no-room-fits out (w .bytes)) (room-tells out (w .bytes)) h))
 
-  pub unwritten : {a b : ℕ} → Unwritten sound held mismatch i n bs (length out) a b
-      → stored next out composed ≡ record { answer = W.Refused a b; lent = out }
+  pub unwritten : {n p : ℕ} → Unwritten w (length out) n p → answerOf w out ≡ writeRefused out n p
   unwritten u = refuses W.Refused bytesTold (fewBytes out) (λ xs. xs) out (not-settled u)
 
-  why-unwritten : {a b : ℕ} → stored next out composed .answer ≡ W.Refused a b → Unwritten sound held mismatch i n bs (length out) a b
-  why-unwritten e =
-      at (why-weighed sound held mismatch i n bs) (why-refused W.Refused bytesTold (fewBytes out) (λ xs. xs) out apart-write composed e)
+  why-unwritten : {n p : ℕ} → answerOf w out .answer ≡ W.Refused n p → Unwritten w (length out) n p
+  why-unwritten e = at (why-weighed w) (why-refused W.Refused bytesTold (fewBytes out) (λ xs. xs) out apart-write (composed w) e)
     where
-      at : {a b : ℕ} {o : Out ℕ} → Weighed sound held mismatch i n bs o → Unsettled (fewBytes out) a b o
-          → Unwritten sound held mismatch i n bs (length out) a b
+      at : {n p : ℕ} {o : Out ℕ} → Weighed w o → Unsettled (fewBytes out) n p o → Unwritten w (length out) n p
       at (Weighed.unsound e) Unsettled.judged = unsound e
       at (Weighed.over e) Unsettled.judged = over e
       at (Weighed.mismatched r e) Unsettled.judged = mismatched r e
       at (Weighed.misfit r e l) Unsettled.judged = misfit r e l
-      at (Weighed.fit r e l) (Unsettled.crowded h) = crowded r e l (why-passed (room-tells out bs) h)
+      at (Weighed.fit r e l) (Unsettled.crowded h) = crowded r e l (why-passed (room-tells out (w .bytes)) h)
 
-  pub why-written : {k d : ℕ} → stored next out composed .answer ≡ W.Bytes k d
-      → Written sound held mismatch i n bs (length out) next k d
+  pub why-written : {k d : ℕ} → answerOf w out .answer ≡ W.Bytes k d → Written w (length out) k d
   why-written {k} {d} e =
-      at (why-weighed sound held mismatch i n bs)
-      (why-accepted W.Refused bytesTold (fewBytes out) (λ xs. xs) out apart-write composed never e)
+      at (why-weighed w) (why-accepted W.Refused bytesTold (fewBytes out) (λ xs. xs) out apart-write (composed w) never e)
     where
-      never : (a b : ℕ) → W.Refused a b ≡ W.Bytes k d → ⊥
-      never a b e = let z : _≡_ {A = ℕ} 0 1 = cc in omega arith
+      never : (n p : ℕ) → W.Refused n p ≡ W.Bytes k d → ⊥
+      never n p e = let z : _≡_ {A = ℕ} 0 1 = cc in omega arith
 
-      refused-never : {a b : ℕ} → Settled bytesTold (fewBytes out) (W.Bytes k d) (refused a b)
-          → Written sound held mismatch i n bs (length out) next k d
+      refused-never : {n p : ℕ} → Settled bytesTold (fewBytes out) (W.Bytes k d) (refused n p) → Written w (length out) k d
       refused-never x = let j = x .judged in let z : _≡_ {A = ℕ} 0 1 = cc in absurd (omega arith)
 
-      at : {o : Out ℕ} → Weighed sound held mismatch i n bs o → Settled bytesTold (fewBytes out) (W.Bytes k d) o
-          → Written sound held mismatch i n bs (length out) next k d
+      at : {o : Out ℕ} → Weighed w o → Settled bytesTold (fewBytes out) (W.Bytes k d) o → Written w (length out) k d
       at (Weighed.unsound e) x = refused-never x
       at (Weighed.over e) x = refused-never x
       at (Weighed.mismatched r e) x = refused-never x
       at (Weighed.misfit r e l) x = refused-never x
       at (Weighed.fit r e l) x =
-          let j : _≡_ {A = Out ℕ} (list bs) (list (x .list)) = x .judged in
-          let y : bs ≡ x .list = cc in
-          let h : length bs ≤ min (length out) mostBytes = why-failed (room-tells out bs) (rw (← y) at (x .enough)) in
-          let told : W.Bytes k d ≡ W.Bytes (length (x .list)) next = x .told in
+          let j : _≡_ {A = Out ℕ} (list (w .bytes)) (list (x .list)) = x .judged in
+          let y : w .bytes ≡ x .list = cc in
+          let h : length (w .bytes) ≤ min (length out) mostBytes = why-failed (room-tells out (w .bytes)) (rw (← y) at (x .enough)) in
+          let told : W.Bytes k d ≡ W.Bytes (length (x .list)) (w .next) = x .told in
           let c : k ≡ length (x .list) = cc in
           record { ready = r; matched = e; fit = l; room = omega arith; most = omega arith; count = rw y c; counter = cc }
 
-  pub wrote : {k d : ℕ} → Written sound held mismatch i n bs (length out) next k d
-      → stored next out composed ≡ record { answer = W.Bytes (length bs) next; lent = sets out 0 bs }
-  wrote w =
-      rw (weighs sound held mismatch i n bs (Weighed.fit (w .ready) (w .matched) (w .fit)))
-      (accepts W.Refused bytesTold (fewBytes out) (λ xs. xs) out bs (failed (no-room-fits out bs) (room-tells out bs) (omega (arith, w .room, w .most))))
+  pub wrote : {k d : ℕ} → Written w (length out) k d → answerOf w out ≡ record { answer = W.Bytes k d; lent = sets out 0 (w .bytes) }
+  wrote x =
+      let f = failed (no-room-fits out (w .bytes)) (room-tells out (w .bytes)) (omega (arith, x .room, x .most)) in
+      rw (weighs w (Weighed.fit (x .ready) (x .matched) (x .fit)), x .count, x .counter)
+      (accepts W.Refused bytesTold (fewBytes out) (λ xs. xs) out (w .bytes) f)
 
-  -- the bytes at the front of the output
-  pub wrote-front : {k d : ℕ} → Written sound held mismatch i n bs (length out) next k d → take k (stored next out composed .lent) ≡ bs
-  wrote-front w = rw (wrote w, w .count) (put-front out bs (w .room))
+  -- the bytes stand at the front of the output, and those behind are unchanged
+  pub wrote-front : {k d : ℕ} → answerOf w out .answer ≡ W.Bytes k d
+      → (take k (answerOf w out .lent) ≡ w .bytes) × (drop k (answerOf w out .lent) ≡ drop k out)
+  wrote-front e =
+      let x = why-written e in
+      (rw (wrote x, x .count) (put-front out (w .bytes) (x .room)), rw (wrote x, x .count) (kept-behind out (w .bytes) (x .room)))
 
-  -- and those behind are unchanged
-  pub kept-past : {k d : ℕ} → Written sound held mismatch i n bs (length out) next k d
-      → drop k (stored next out composed .lent) ≡ drop k out
-  kept-past w = rw (wrote w, w .count) (kept-behind out bs (w .room))
-
-  -- a refusal, which is a number above 0, leaves the output and the counter
-  pub write-keeps : (c : ℕ) → 0 < writeNumber (stored next out composed .answer)
-      → (stored next out composed .lent ≡ out) × (writeCounter c (stored next out composed .answer) ≡ c)
-  write-keeps c = at (stored next out composed .answer) refl
-    where
-      at : (a : Writing) → stored next out composed .answer ≡ a → 0 < writeNumber a
-          → (stored next out composed .lent ≡ out) × (writeCounter c a ≡ c)
-      at (W.Bytes k d) e h = absurd (omega arith)
-      at (W.Refused n p) e h = (keeps W.Refused bytesTold (fewBytes out) (λ xs. xs) out apart-write composed e, refl)
-
-  -- So a relation is exact if every such reason gives it, and it gives such a reason
-  pub exactly-unwritten : {a b : ℕ} {Refusal : Type 0} → (Unwritten sound held mismatch i n bs (length out) a b → Refusal)
-      → (Refusal → Unwritten sound held mismatch i n bs (length out) a b) → (stored next out composed .answer ≡ W.Refused a b) ↔ Refusal
-  exactly-unwritten from to = (λ e. from (why-unwritten e), λ r. ap (λ x. x .answer) (unwritten (to r)))
-
-  -- the same of when it accepts
-  pub exactly-written : {k d : ℕ} {Accept : Type 0} → (Written sound held mismatch i n bs (length out) next k d → Accept)
-      → (Accept → Written sound held mismatch i n bs (length out) next k d) → (stored next out composed .answer ≡ W.Bytes k d) ↔ Accept
-  exactly-written {k} {d} from to = (λ e. from (why-written e), λ r. told (to r))
-    where
-      told : Written sound held mismatch i n bs (length out) next k d → stored next out composed .answer ≡ W.Bytes k d
-      told w = rw (w .count, w .counter) (ap (λ x. x .answer) (wrote w))
+  -- So a relation of refusals and one of acceptances are exact if every such reason gives them, and they give such a reason
+  pub writer : {Refusal Accept : ℕ → ℕ → Type 0} → ((n p : ℕ) → Unwritten w (length out) n p → Refusal n p)
+      → ((n p : ℕ) → Refusal n p → Unwritten w (length out) n p) → ((k d : ℕ) → Written w (length out) k d → Accept k d)
+      → ((k d : ℕ) → Accept k d → Written w (length out) k d) → Exact W.Refused W.Bytes Refusal Accept out (answerOf w out)
+  writer by to takes taken =
+      record {
+        refused = λ n p. (λ e. by n p (why-unwritten e), λ r. ap (λ x. x .answer) (unwritten (to n p r)));
+        number = λ n p r. unwritten-number (to n p r);
+        keeps = λ n p. keeps W.Refused bytesTold (fewBytes out) (λ xs. xs) out apart-write (composed w);
+        accepted = λ k d. (λ e. takes k d (why-written e), λ r. ap (λ x. x .answer) (wrote (taken k d r)));
+      }

@@ -3,9 +3,11 @@ use Prim.Native.Nat.{ℕ, zero, suc, _+_, _-_, _<_, _≤_}
 use native.Mathlib.Omega.{arith}
 use native.Mathlib.Numerals.{add-one}
 use mathlib.Core.Path.{_≡_, refl, sym, ap, _∙_}
+use mathlib.Core.Bool.{Bool}
 use mathlib.Core.List.{List, _∷_}
 use lib.ListN.{length, take, drop, getD, set, length-set}
 use lib.Seq.{slice, getD-set-same, getD-set-other}
+use Rattle.words.specs.Words.{same}
 use Rattle.words.proofs.SameLaws.{slice-is}
 use Rattle.passing.specs.Names.{nameIn, namesIn, Lying, Lie, named}
 
@@ -34,12 +36,13 @@ pub top : (t ps : List ℕ) (d : ℕ) → Lie t ps (d + 1) → Lying t ps d
 unfolding Lie
 top t ps d l = rw (add-one d) at l .0
 
--- a name as the part of the text that it is
-pub name-is : (t ps : List ℕ) (i : ℕ) {a b : ℕ} → Lying t ps i → a ≡ getD ps (i + i) 0 → b ≡ getD ps (i + i + 1) 0
-    → take (b - a) (drop a t) ≡ nameIn t ps i
-name-is t ps i {a} {b} l e f =
+-- a word is compared with a name as the part of the text that it is
+pub name-is : (t ps : List ℕ) (i : ℕ) (w : List ℕ) {a b : ℕ} {r : Bool} → Lying t ps i → a ≡ getD ps (i + i) 0 → b ≡ getD ps (i + i + 1) 0
+    → r ≡ same w (take (b - a) (drop a t)) → r ≡ same w (nameIn t ps i)
+name-is t ps i w {a} {b} l e f g =
     let n : a + (b - a) ≡ b = omega (arith, l .name) in
-    rw (← e, ← f) (sym (ap (λ k. slice a k t) (sym n) ∙ slice-is a (b - a) t (omega (arith, l .name, l .inside))))
+    let x : slice a b t ≡ take (b - a) (drop a t) = ap (λ k. slice a k t) (sym n) ∙ slice-is a (b - a) t (omega (arith, l .name, l .inside)) in
+    g ∙ rw (← e, ← f, x)
 
 -- a name on top of d names
 module _ (t ps : List ℕ) (d from to : ℕ) (h : d + d + 1 < length ps) where

@@ -20,22 +20,28 @@ use Rattle.passing.specs.declared.Turn.{Turn}
 use Rattle.passing.specs.declared.Turn.the-variants as T
 use Rattle.passing.specs.Names.{nameIn, namesIn, Lie}
 
-abbrev pub SignOf : Text → ℕ → ℕ → Sign → Type 0
-SignOf w from to (S.Begin a b) = (w ≡ begin) × (a ≡ from) × (b ≡ to)
-SignOf w from to (S.End a b) = (w ≡ end) × (a ≡ from) × (b ≡ to)
-SignOf w from to (S.Other a b) = (plain w ≡ true) × (a ≡ from) × (b ≡ to)
-SignOf w from to (S.Stop p) = ⊥
+abbrev pub Says : Text → ℕ → ℕ → Sign → Type 0
+Says w from to (S.Begin a b) = (w ≡ begin) × (a ≡ from) × (b ≡ to)
+Says w from to (S.End a b) = (w ≡ end) × (a ≡ from) × (b ≡ to)
+Says w from to (S.Other a b) = (plain w ≡ true) × (a ≡ from) × (b ≡ to)
+Says w from to (S.Stop p) = ⊥
+
+pub record SignOf (w : Text) (from to : ℕ) (r : Sign) : Type 0 where
+  pub is : Says w from to r
 
 -- a state in which the text may not end
 abbrev pub Open : State → Type 0
 Open s = (n : ℕ) → ending s n ≡ O.Wrong n
 
 -- what the next word from place q on is
-abbrev pub Signed : List ℕ → ℕ → Sign → Type 0
-Signed t q (S.Begin from to) = NextWord t q (N.Word from to) × (slice from to t ≡ begin)
-Signed t q (S.End from to) = NextWord t q (N.Word from to) × (slice from to t ≡ end)
-Signed t q (S.Other from to) = NextWord t q (N.Word from to) × (plain (slice from to t) ≡ true)
-Signed t q (S.Stop p) = (s : State) → Open s → reading t q s ≡ O.Wrong p
+abbrev pub Word : List ℕ → ℕ → Sign → Type 0
+Word t q (S.Begin from to) = NextWord t q (N.Word from to) × (slice from to t ≡ begin)
+Word t q (S.End from to) = NextWord t q (N.Word from to) × (slice from to t ≡ end)
+Word t q (S.Other from to) = NextWord t q (N.Word from to) × (plain (slice from to t) ≡ true)
+Word t q (S.Stop p) = (s : State) → Open s → reading t q s ≡ O.Wrong p
+
+pub record Signed (t : List ℕ) (q : ℕ) (r : Sign) : Type 0 where
+  pub is : Word t q r
 
 -- at place q the names of d blocks are held; `more` bytes of /begin stand before it
 pub record Held (t ps : List ℕ) (d more q : ℕ) : Type 0 where
@@ -58,7 +64,13 @@ pub record Turned (t : List ℕ) (q : ℕ) (s : Found → State) (ps : List ℕ)
   pub is : (f : Found) → reading t q (s f) ≡ turned t ps f r
   pub place : TurnedTo t ps q r
 
--- behind /end, inside the topmost of d and one more blocks
+-- inside d blocks, also behind /begin; and behind /end, inside the topmost of d and one more blocks
+abbrev pub insideOf : List ℕ → List ℕ → ℕ → Found → State
+insideOf t ps d f = State.inside f (namesIn t ps d)
+
+abbrev pub opening : List ℕ → List ℕ → ℕ → Found → State
+opening t ps d f = State.begun f (namesIn t ps d)
+
 abbrev pub closing : List ℕ → List ℕ → ℕ → Found → State
 closing t ps d f = State.ended f (nameIn t ps d) (namesIn t ps d)
 

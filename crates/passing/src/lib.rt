@@ -5,9 +5,8 @@ ghost use Prim.Native.Nat.{_+_, _<_, _≤_};
 ghost use lib.ListN.{length};
 ghost use lib.Seq.{slice};
 ghost use Rattle.words.specs.Words.{same as sameText};
-ghost use Rattle.description.specs.Reading.{State};
-ghost use Rattle.passing.specs.Names.{nameIn, namesIn, named, Lying};
-ghost use Rattle.passing.specs.Passing.{SignOf, Signed, Held, closing, Turned, Passable, Passed};
+ghost use Rattle.passing.specs.Names.{nameIn, named, Lying};
+ghost use Rattle.passing.specs.Passing.{SignOf, Signed, Held, insideOf, opening, closing, Turned, Passable, Passed};
 use description::Reached;
 use finding::Next;
 use finding::next_word;
@@ -78,7 +77,7 @@ fn hold(names: &mut [u16], d: usize, from: usize, to: usize)
 // The name of a block that opens, behind its /begin.
 fn open(t: &[u8], q: usize, names: &mut [u16], depth: usize) -> Turn
     requires { ⌜ (0 < depth) × Held (now t) (now names) depth 6 q ⌝ }
-    ensures { λ r. ⌜ Turned (now (t .entry)) q (λ f. State.begun f (namesIn (now (t .entry)) (now (names .entry)) depth)) (now (names .exit)) r ⌝ }
+    ensures { λ r. ⌜ Turned (now (t .entry)) q (opening (now (t .entry)) (now (names .entry)) depth) (now (names .exit)) r ⌝ }
 {
     match next_sign(t, q) {
         Sign::Begin(from, _) => Turn::Wrong(from),
@@ -122,7 +121,7 @@ fn close(t: &[u8], q: usize, names: &[u16], d: usize) -> Turn
 // told apart here and not by `next_sign`: one call less for each word.
 fn go_on(t: &[u8], q: usize, names: &mut [u16], depth: usize) -> Turn
     requires { ⌜ (0 < depth) × Held (now t) (now names) depth 0 q ⌝ }
-    ensures { λ r. ⌜ Turned (now (t .entry)) q (λ f. State.inside f (namesIn (now (t .entry)) (now (names .entry)) depth)) (now (names .exit)) r ⌝ }
+    ensures { λ r. ⌜ Turned (now (t .entry)) q (insideOf (now (t .entry)) (now (names .entry)) depth) (now (names .exit)) r ⌝ }
 {
     match next_word(t, q) {
         Next::Word(from, to) => match sign_of(t, from, to) {

@@ -1,2 +1,3 @@
+pub mod CaseLaws
 pub mod PlaceLaws
 pub mod PlanLaws

@@ -19,9 +19,7 @@ planOf layout header align datapacket longest direction node k =
       direction = direction;
       node = node;
       size = k .size;
-      lenat = k .lenat;
       lenwidth = k .lenwidth;
-      ctrat = k .ctrat;
       ctrwidth = k .ctrwidth;
     }
 

@@ -3,7 +3,7 @@
 ghost use mathlib.Core.Path.{_≡_};
 ghost use Prim.Native.Nat.{_+_, _≤_};
 ghost use Rattle.plan.specs.Place.{Near, Beyond, Streaming, Onward, rests as restsOf, headerAt, behindAt, streamedAt, nextPacket, onAt};
-ghost use Rattle.plan.specs.Plan.{planOf};
+ghost use Rattle.plan.specs.Plan.{planOf, Cased};
 use layout::Shape;
 use layout::either;
 use layout::pick;
@@ -21,9 +21,7 @@ pub struct Plan {
     pub direction: u32,
     pub node: usize,
     pub size: usize,
-    pub lenat: usize,
     pub lenwidth: usize,
-    pub ctrat: usize,
     pub ctrwidth: usize,
 }
 
@@ -55,41 +53,65 @@ pub fn joined(
         direction,
         node: node as usize,
         size: k.size,
-        lenat: k.lenat,
         lenwidth: k.lenwidth,
-        ctrat: k.ctrat,
         ctrwidth: k.ctrwidth,
     }
 }
 
-// Whether data packets may end with a rest.
-pub fn rests(layout: usize) -> bool
-    ensures { λ r. ⌜ r ≡ restsOf layout ⌝ }
+// The plan with the scalars by which a loop was told its case in their places, where they are the plan's own: so the compiler knows them.
+pub fn cased(
+    layout: usize,
+    lenwidth: usize,
+    ctrwidth: usize,
+    size: usize,
+    align: usize,
+    p: Plan,
+) -> Plan
+    requires { ⌜ Cased layout lenwidth ctrwidth size align p ⌝ }
+    ensures { λ r. ⌜ r ≡ p ⌝ }
 {
-    either(layout == 1, layout == 2)
+    Plan {
+        layout,
+        header: p.header,
+        align,
+        datapacket: p.datapacket,
+        longest: p.longest,
+        direction: p.direction,
+        node: p.node,
+        size,
+        lenwidth,
+        ctrwidth,
+    }
+}
+
+// Whether data packets may end with a rest.
+pub fn rests(p: Plan) -> bool
+    ensures { λ r. ⌜ r ≡ restsOf p ⌝ }
+{
+    either(p.layout == 1, p.layout == 2)
 }
 
 // Where the header stands at a place. A frame's place is the end of a packet, and the byte before the next packet is its header.
-pub fn header(layout: usize, align: usize, q: usize) -> usize
-    requires { ⌜ Near align q ⌝ }
-    ensures { λ r. ⌜ Beyond (headerAt layout align q) q r ⌝ }
+pub fn header(p: Plan, q: usize) -> usize
+    requires { ⌜ Near (p .align) q ⌝ }
+    ensures { λ r. ⌜ Beyond (headerAt p q) q r ⌝ }
 {
-    if layout == 3 {
-        return rounded(align, q + 1) - 1;
+    if p.layout == 3 {
+        return rounded(p.align, q + 1) - 1;
     }
     q
 }
 
 // The place behind a packet that ends at e: behind its tail, where it has one. Places are multiples of the alignment, so that rounding the place
 // is rounding the message.
-pub fn behind(layout: usize, align: usize, e: usize) -> usize
-    requires { ⌜ Near align e ⌝ }
-    ensures { λ r. ⌜ Beyond (behindAt layout align e) e r ⌝ }
+pub fn behind(p: Plan, e: usize) -> usize
+    requires { ⌜ Near (p .align) e ⌝ }
+    ensures { λ r. ⌜ Beyond (behindAt p e) e r ⌝ }
 {
-    if layout == 3 {
+    if p.layout == 3 {
         return e;
     }
-    rounded(align, e)
+    rounded(p.align, e)
 }
 
 // The end of the data packet in which a stream's place stands, behind a place whose data packet has this end. One end between is passed without a
@@ -106,28 +128,28 @@ pub fn streamed(m: usize, end: usize, q: usize) -> usize
 }
 
 // The start of the next data packet.
-pub fn next_packet(m: usize, a: At) -> At
-    requires { ⌜ a .end + m ≤ 2000000000 ⌝ }
-    ensures { λ r. ⌜ r ≡ nextPacket m a ⌝ }
+pub fn next_packet(p: Plan, a: At) -> At
+    requires { ⌜ a .end + p .datapacket ≤ 2000000000 ⌝ }
+    ensures { λ r. ⌜ r ≡ nextPacket p a ⌝ }
 {
     At {
         q: a.end,
-        end: a.end + m,
+        end: a.end + p.datapacket,
     }
 }
 
 // The place behind a message. A single one leaves the rest of its data packet free, which is passed with it.
-pub fn on(layout: usize, m: usize, a: At, next: usize) -> At
-    requires { ⌜ Onward m a next ⌝ }
-    ensures { λ r. ⌜ r ≡ onAt layout m a next ⌝ }
+pub fn on(p: Plan, a: At, next: usize) -> At
+    requires { ⌜ Onward p a next ⌝ }
+    ensures { λ r. ⌜ r ≡ onAt p a next ⌝ }
 {
-    if layout == 0 {
-        return next_packet(m, a);
+    if p.layout == 0 {
+        return next_packet(p, a);
     }
-    if layout == 2 {
+    if p.layout == 2 {
         return At {
             q: next,
-            end: streamed(m, a.end, next),
+            end: streamed(p.datapacket, a.end, next),
         };
     }
     At {

@@ -83,21 +83,6 @@ fn told_write(first: u32, r: Writing) -> WriteResult
     }
 }
 
-fn told_check(r: Checked) -> CheckResult
-    ensures { λ x. ⌜ x ≡ checkResult r ⌝ }
-{
-    match r {
-        Checked::Inside => CheckResult {
-            number: 0,
-            place: 0,
-        },
-        Checked::Refused(number, place) => CheckResult {
-            number: number,
-            place: place,
-        },
-    }
-}
-
 fn no_setting() -> Setting
     ensures { λ r. ⌜ r ≡ noSetting ⌝ }
 {
@@ -111,10 +96,11 @@ fn no_setting() -> Setting
     }
 }
 
-fn told_settings(d: Described) -> SettingsResult
-    ensures { λ x. ⌜ x ≡ settingsResult d ⌝ }
+#[no_mangle]
+pub extern "C" fn xcp_usb_settings(text: &[u8], longest: u32) -> SettingsResult
+    ensures { λ r. ⌜ r ≡ settingsResult (settingsOf (now (text .entry)) longest) ⌝ }
 {
-    match d {
+    match settings::settings(text, longest) {
         Described::Both(cmd, res) => SettingsResult {
             number: 0,
             place: 0,
@@ -134,14 +120,6 @@ fn told_settings(d: Described) -> SettingsResult
 }
 
 #[no_mangle]
-pub extern "C" fn xcp_usb_settings(text: &[u8], longest: u32) -> SettingsResult
-    ensures { λ r. ⌜ r ≡ settingsResult (settingsOf (now (text .entry)) longest) ⌝ }
-{
-    let d = settings::settings(text, longest);
-    told_settings(d)
-}
-
-#[no_mangle]
 pub extern "C" fn xcp_usb_read(
     s: Setting,
     transfer: &[u8],
@@ -150,8 +128,7 @@ pub extern "C" fn xcp_usb_read(
 ) -> ReadResult
     ensures { λ r. ⌜ Reads (usbReadOf s (now (transfer .entry)) c (now (rows .entry))) c r (now (rows .exit)) ⌝ }
 {
-    let r = usb_reader::read(s, transfer, c, rows);
-    told_read(c, r)
+    told_read(c, usb_reader::read(s, transfer, c, rows))
 }
 
 // Filled up where fillup is not 0.
@@ -182,8 +159,7 @@ pub extern "C" fn xcp_flexray_read(
 ) -> ReadResult
     ensures { λ r. ⌜ Reads (flexrayReadOf s (now (frame .entry)) c (now (rows .entry))) c r (now (rows .exit)) ⌝ }
 {
-    let r = flexray_reader::read(s, frame, c, rows);
-    told_read(c, r)
+    told_read(c, flexray_reader::read(s, frame, c, rows))
 }
 
 #[no_mangle]
@@ -206,8 +182,16 @@ pub extern "C" fn xcp_flexray_write(
 pub extern "C" fn xcp_part_check(input: &[u8], place: u32, length: u32) -> CheckResult
     ensures { λ r. ⌜ r ≡ checkResult (checkOf (now (input .entry)) place length) ⌝ }
 {
-    let r = packet::part_check(input, place, length);
-    told_check(r)
+    match packet::part_check(input, place, length) {
+        Checked::Inside => CheckResult {
+            number: 0,
+            place: 0,
+        },
+        Checked::Refused(number, place) => CheckResult {
+            number: number,
+            place: place,
+        },
+    }
 }
 
 #[no_mangle]

@@ -15,10 +15,10 @@ use Rattle.packet.specs.Message.{Msg}
 use Rattle.packet.specs.Counter.{holds, later}
 use Rattle.packet.specs.Packets.{joined, packets, Matched}
 use Rattle.packet.specs.Answer.{Answer, Gives, Accepted, readNumber, readValue, readState}
-use Rattle.packet.proofs.AnswerLaws.{exactly}
+use Rattle.packet.proofs.AnswerLaws.{Exact, exactly}
 use Rattle.packet.proofs.CounterLaws.{later-is, later-without, held}
 use Rattle.packet.proofs.PacketsLaws.{Each, packets-lengths, packets-joined}
-use Rattle.packet.proofs.ReaderLaws.{Alike}
+use Rattle.packet.proofs.ReaderLaws.{Alike, Rules, Reader}
 use Rattle.packet.proofs.SeenLaws.{Shown}
 
 -- every call is answered: no entry point asks anything (Tied has a line for each), and a contract's definition gives an answer for every input
@@ -39,17 +39,18 @@ module _ {E C : Type 0} (refuse : ℕ → ℕ → E) (accept : ℕ → C → E) 
     -- it is accepted with k and d exactly when nothing is refused
     pub accepted : (k : ℕ) (d : C) → (r ≡ accept k d) ↔ Accept k d
 
-module _ {E C : Type 0} {refuse : ℕ → ℕ → E} {accept : ℕ → C → E} {Refusal : ℕ → ℕ → Type 0} {Accept : ℕ → C → Type 0}
-    {lent : List ℕ} {a : Answer E} (refuses : (n p : ℕ) → (a .answer ≡ refuse n p) ↔ Refusal n p)
-    (number : (n p : ℕ) → Refusal n p → (0 < n) × (n ≤ 8)) (keeps : (n p : ℕ) → 0 < n → a .answer ≡ refuse n p → a .lent ≡ lent)
-    (accepts : (k : ℕ) (d : C) → (a .answer ≡ accept k d) ↔ Accept k d) where
-  pub answers-promised : {r : E} {left : List ℕ} → Gives a r left → Answers refuse accept Refusal Accept lent r left
-  answers-promised {r} {left} g = record { refused = λ n p. exactly g (refuses n p); refusal = refusal; accepted = λ k d. exactly g (accepts k d) }
-    where
-      refusal : (n p : ℕ) → r ≡ refuse n p → (0 < n) × (n ≤ 8) × (left ≡ lent)
-      refusal n p e =
-          let (least, most) = number n p (exactly g (refuses n p) .0 e) in
-          (least, most, g .lent ∙ keeps n p least (sym (g .answer) ∙ e))
+-- it keeps all that where the laws of its transport hold
+pub answers-promised : {E C : Type 0} {refuse : ℕ → ℕ → E} {accept : ℕ → C → E} {Refusal : ℕ → ℕ → Type 0}
+    {Accept : ℕ → C → Type 0} {lent : List ℕ} {a : Answer E} {r : E} {left : List ℕ} → Exact refuse accept Refusal Accept lent a → Gives a r left
+    → Answers refuse accept Refusal Accept lent r left
+answers-promised x g =
+    record {
+      refused = λ n p. exactly g (x .refused n p);
+      refusal = λ n p e.
+          let (least, most) = x .number n p (exactly g (x .refused n p) .0 e) in
+          (least, most, g .lent ∙ x .keeps n p (sym (g .answer) ∙ e));
+      accepted = λ k d. exactly g (x .accepted k d);
+    }
 
 ---- Readers --------------------------------------------------------------------------------------------------------------------
 
@@ -57,82 +58,61 @@ module _ {E C : Type 0} {refuse : ℕ → ℕ → E} {accept : ℕ → C → E} 
 abbrev pub IsRows : Reading → Type 0
 IsRows r = (k : ℕ) × (d : Counter) × (r ≡ R.Rows k d)
 
--- What document 01 says of a read, of an input into a table
-pub record Rules : Type 1 where
-  pub input : List ℕ
-  pub table : List ℕ
-  -- its table of refusals gives n at p
-  pub Refusal : (n p : ℕ) → Type 0
-  -- neither the setting nor the state is refused
-  pub Fine : Type 0
-  -- the input holds the messages ms; their rows; and the state that they leave
-  pub Whole : List Msg → Type 0
-  pub rows : List Msg → List ℕ
-  pub state : List Msg → Counter
-
-module _ (S : Rules) where
+-- what document 01 says of a read, of an input into a table (packet's ReaderLaws)
+module _ {input table : List ℕ} (S : Rules input table) where
   -- the table has room for the rows of the messages ms
   abbrev pub Room : List Msg → Type 0
-  Room ms = 5 * length ms ≤ length (S .table)
+  Room ms = 5 * length ms ≤ length table
 
   -- nothing is refused, with k rows, and the state d is left
   abbrev pub Accepts : (k : ℕ) (d : Counter) → Type 0
-  Accepts = Accepted (S .Fine) (S .Whole) (S .state) (length (S .table))
+  Accepts = Accepted (S .Fine) (S .Whole) (S .state) (length table)
 
   -- a read that leaves the table at `left` gives the messages ms
   pub record Given (left : List ℕ) (ms : List Msg) : Type 0 where
     -- their rows stand at the front of the table, and those behind are unchanged
     pub front : take (5 * length ms) left ≡ S .rows ms
-    pub past : drop (5 * length ms) left ≡ drop (5 * length ms) (S .table)
+    pub past : drop (5 * length ms) left ≡ drop (5 * length ms) table
     -- a row's part shows exactly its packet's bytes
-    pub shown : Each (Shown (S .input)) ms
+    pub shown : Each (Shown input) ms
     -- no other list makes up the input
     pub only : (ns : List Msg) → S .Whole ns → ns ≡ ms
 
   -- a read that answers r, and leaves the table at `left`
   pub record Read (r : Reading) (left : List ℕ) : Type 0 where
-    pub answers : Answers R.Refused R.Rows (S .Refusal) Accepts (S .table) r left
+    pub answers : Answers R.Refused R.Rows (S .Refusal) Accepts table r left
     -- Demand 3: it is accepted exactly if some list of messages makes up the input and the table has room, at most one list does, and it gives that list
     pub demand : IsRows r ↔ ((ms : List Msg) × S .Fine × S .Whole ms × Room ms)
     pub gives : (ms : List Msg) → S .Fine → S .Whole ms → Room ms → (r ≡ R.Rows (length ms) (S .state ms)) × Given left ms
 
--- it keeps all that where the laws of its transport hold
-module _ {S : Rules} {c : Counter} {a : Answer Reading}
-    (refuses : (n p : ℕ) → (a .answer ≡ R.Refused n p) ↔ S .Refusal n p) (number : (n p : ℕ) → S .Refusal n p → (0 < n) × (n ≤ 8))
-    (keeps : 0 < readNumber (a .answer) → (a .lent ≡ S .table) × (readState c (a .answer) ≡ c))
-    (accepts : (k : ℕ) (d : Counter) → (a .answer ≡ R.Rows k d) ↔ Accepts S k d)
-    (put : (ms : List Msg) → S .Fine → S .Whole ms → Room S ms
-    → (take (5 * length ms) (a .lent) ≡ S .rows ms) × (drop (5 * length ms) (a .lent) ≡ drop (5 * length ms) (S .table)))
-    (unique : (ms ns : List Msg) → S .Whole ms → S .Whole ns → ms ≡ ns) (shows : (ms : List Msg) → S .Whole ms → Each (Shown (S .input)) ms) where
-  pub read-promised : {r : Reading} {left : List ℕ} → Gives a r left → Read S r left
-  read-promised {r} {left} g =
-      record {
-        answers = answers-promised refuses number (λ n p l e. keeps (rw e l) .0) accepts g;
-        demand = (from, λ x. (length (x .0), S .state (x .0), told (x .0) (x .1) (x .2) (x .3)));
-        gives = λ ms f x l. (told ms f x l, given ms f x l);
-      }
-    where
-      from : IsRows r → (ms : List Msg) × S .Fine × S .Whole ms × Room S ms
-      from x = let y = exactly g (accepts (x .0) (x .1)) .0 (x .2) in (y .messages, y .fine, y .whole, y .room)
+-- and a read keeps all this
+pub read-promised : {input table : List ℕ} {S : Rules input table} {a : Answer Reading} {r : Reading} {left : List ℕ} → Reader S a → Gives a r left
+    → Read S r left
+read-promised {S = S} {r = r} {left = left} x g =
+    record {
+      answers = answers-promised (x .exact) g;
+      demand = (from, λ y. (length (y .0), S .state (y .0), told (y .0) (y .1) (y .2) (y .3)));
+      gives = λ ms f w l. (told ms f w l, given ms f w l);
+    }
+  where
+    from : IsRows r → (ms : List Msg) × S .Fine × S .Whole ms × Room S ms
+    from (k, d, e) = let y = exactly g (x .exact .accepted k d) .0 e in (y .messages, y .fine, y .whole, y .room)
 
-      told : (ms : List Msg) → S .Fine → S .Whole ms → Room S ms → r ≡ R.Rows (length ms) (S .state ms)
-      told ms f x l =
-          exactly g (accepts (length ms) (S .state ms)) .1
-          (record { fine = f; messages = ms; whole = x; room = l; count = refl; left = refl })
+    told : (ms : List Msg) → S .Fine → S .Whole ms → Room S ms → r ≡ R.Rows (length ms) (S .state ms)
+    told ms f w l =
+        exactly g (x .exact .accepted (length ms) (S .state ms)) .1
+        (record { fine = f; messages = ms; whole = w; room = l; count = refl; left = refl })
 
-      given : (ms : List Msg) → S .Fine → S .Whole ms → Room S ms → Given S left ms
-      given ms f x l =
-          record {
-            front = rw (g .lent) (put ms f x l .0);
-            past = rw (g .lent) (put ms f x l .1);
-            shown = shows ms x;
-            only = λ ns y. unique ns ms y x;
-          }
+    given : (ms : List Msg) → S .Fine → S .Whole ms → Room S ms → Given S left ms
+    given ms f w l =
+        let (front, past) = x .front ms f w l in
+        record { front = rw (g .lent) front; past = rw (g .lent) past; shown = x .shown ms w; only = λ ns y. x .unique ns ms y w }
 
--- two reads whose answers agree but for the state tell the same number, the same place or count, and leave the same table
-pub same-told : {a b : Answer Reading} → Alike a b → {r u : Reading} {left past : List ℕ} → Gives a r left → Gives b u past
-    → (readNumber r ≡ readNumber u) × (readValue r ≡ readValue u) × (left ≡ past)
-same-told same g h = (rw (g .answer, h .answer) (same .number), rw (g .answer, h .answer) (same .value), rw (g .lent, h .lent) (same .lent))
+-- two reads whose answers agree, of which the first leaves the state c, tell the same number, the same place or count, and leave the same table
+pub same-told : {a b : Answer Reading} {c : Counter} → Alike a b c → {r u : Reading} {left past : List ℕ} → Gives a r left → Gives b u past
+    → (readState c r ≡ c) × (readNumber r ≡ readNumber u) × (readValue r ≡ readValue u) × (left ≡ past)
+same-told same g h =
+    (rw (g .answer) (same .state), rw (g .answer, h .answer) (same .number), rw (g .answer, h .answer) (same .value), rw (g .lent, h .lent) (same .lent))
 
 ---- Writers --------------------------------------------------------------------------------------------------------------------
 
@@ -152,9 +132,9 @@ module _ (bs ns : List ℕ) (c w n : ℕ) (made out : List ℕ) (k d : ℕ) (lef
     pub unaltered : w ≡ 0 → d ≡ c
 
 pub bytes-promised : {bs ns : List ℕ} {c w n : ℕ} {made out : List ℕ} {k d : ℕ} {left : List ℕ} {a : Answer Writing} → Gives a (W.Bytes k d) left
-    → Matched ns bs → holds w c ≡ true → k ≡ length made → d ≡ later w n c → take k (a .lent) ≡ made → drop k (a .lent) ≡ drop k out
+    → Matched ns bs → holds w c ≡ true → k ≡ length made → d ≡ later w n c → (take k (a .lent) ≡ made) × (drop k (a .lent) ≡ drop k out)
     → Bytes bs ns c w n made out k d left
-bytes-promised {bs} {ns} {c} {w} {n} g m v count next front past =
+bytes-promised {bs} {ns} {c} {w} {n} g m v count next (front, past) =
     record {
       lengths = packets-lengths ns bs (m .same);
       joins = packets-joined ns bs (m .same);

@@ -15,7 +15,8 @@ use Rattle.packet.specs.Counter.{valid}
 use Rattle.packet.proofs.CounterLaws.{not-valid}
 use Rattle.usb.specs.declared.Setting.{Setting}
 use Rattle.usb.specs.Setting.{W, sound}
-use Rattle.usb.specs.Refusal.{Broken, Fine, ReadRefusal}
+use Rattle.usb.specs.Refusal.{Fine, ReadRefusal}
+use Rattle.usb.proofs.RefusalLaws.{rule-number}
 use Rattle.words.specs.Words.{same}
 use Rattle.words.specs.Spaced.{Spaced}
 use Rattle.keywords.specs.declared.Side.{Side}
@@ -166,17 +167,11 @@ reads-same x call other a b k l s = call ∙ Laws.reads-same x a b k l s ∙ sym
 
 ---- Reading with settings that were given --------------------------------------------------------------------------------------
 
-broken-not-1 : {s : Setting} {q n : ℕ} {bs : List ℕ} → Broken s q bs n → 1 < n
-broken-not-1 (Broken.over n h l) = omega arith
-broken-not-1 (Broken.past n h l p) = omega arith
-broken-not-1 (Broken.short a b c d) = omega arith
-broken-not-1 (Broken.zeroed a b c d) = omega arith
-
 fine-not-1 : {s : Setting} {u : List ℕ} {k : Counter} {m n p : ℕ} → Fine s k → ReadRefusal s u k m n p → 1 < n
 fine-not-1 f (ReadRefusal.setting e) = absurd (true≢false (sym (f .setting) ∙ e))
 fine-not-1 {s} {k = k} f (ReadRefusal.counter i e) = absurd (true≢false (sym (f .counter) ∙ not-valid (W s) k i e))
 fine-not-1 f (ReadRefusal.long g l) = omega arith
-fine-not-1 f (ReadRefusal.rule g l ms y b) = broken-not-1 b
+fine-not-1 f (ReadRefusal.rule g l ms y b) = rule-number b .0
 fine-not-1 f (ReadRefusal.room g ms y l) = omega arith
 
 -- usb_reader::read does not answer 1 with a setting that is sound, as both settings of a `Pair` are, and with a state that is not refused

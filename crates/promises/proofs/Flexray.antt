@@ -22,12 +22,12 @@ use Rattle.flexray.specs.Layout.{Frame}
 use Rattle.flexray.specs.Row.{frameTable, frameState}
 use Rattle.flexray.specs.Reading.{readOf}
 use Rattle.flexray.specs.Writing.{frame, placed, writeOf}
-use Rattle.flexray.specs.Refusal.{Fine, ReadRefusal, WriteRefusal, WriteAccept}
-use Rattle.flexray.proofs.ReadLaws.{read-unique, parts-show}
-use Rattle.flexray.proofs.RefusalLaws.{refused-exactly, read-number, refused-keeps, accepted-exactly, accepted-rows, counter-unread, counter-unaltered}
+use Rattle.flexray.specs.Refusal.{WriteRefusal, WriteAccept}
+use Rattle.flexray.proofs.RefusalLaws.{counter-unread}
 use Rattle.flexray.proofs.WriteLaws as Laws
-use Rattle.promises.proofs.Call.{Answers, answers-promised, Rules, Read, read-promised, same-told, Bytes, bytes-promised}
-use Rattle.promises.proofs.Numbers.{reading, writing, InNumbers, behind-numbers, accepted-gives, Numbers, numbers-promised, ReadNumbers, read-numbers}
+pub use Rattle.flexray.proofs.RefusalLaws.{rules, read-exact}
+pub use Rattle.flexray.proofs.WriteLaws.{write-exact}
+use Rattle.promises.proofs.Call.{Answers, answers-promised, Read, read-promised, same-told, Bytes, bytes-promised}
 
 ---- The reader -----------------------------------------------------------------------------------------------------------------
 
@@ -37,41 +37,14 @@ module _ (s : Setting) (t : List ℕ) (c : Counter) (rows : List ℕ) where
   abbrev pub Reads : Reading → List ℕ → Type 0
   Reads r left = Gives (readOf s t c rows) r left
 
-  -- what document 01 says of such a call
-  abbrev pub rules : Rules
-  rules =
-      record {
-        input = t;
-        table = rows;
-        Refusal = ReadRefusal s t c (length rows);
-        Fine = Fine s c;
-        Whole = λ ms. Frame s ms t;
-        rows = frameTable (s .direction) (W s) c;
-        state = frameState (W s) c;
-      }
+  -- refused and accepted exactly when document 01 says so; a refusal changes nothing; and demand 3
+  pub reads : {r : Reading} {left : List ℕ} → Reads r left → Read (rules s t c rows) r left
+  reads = read-promised (read-exact s t c rows)
 
-  -- refused and accepted exactly when it says so; a refusal changes nothing; and demand 3
-  pub reads : {r : Reading} {left : List ℕ} → Reads r left → Read rules r left
-  reads =
-      read-promised (refused-exactly s t c rows) (λ n p. read-number) (refused-keeps s t c rows) (accepted-exactly s t c rows) (accepted-rows s t c rows)
-      (read-unique s t) (parts-show s t)
-
-  -- the same where the caller sees numbers
-  pub reads-in-numbers : {n v : ℕ} {d : Counter} {left : List ℕ} → InNumbers reading (readOf s t c rows) c n v d left → ReadNumbers rules c n v d left
-  reads-in-numbers g = read-numbers g (reads (behind-numbers g))
-
-  -- and number 0 tells that it is accepted
-  pub reads-accepted : {n v : ℕ} {d : Counter} {left : List ℕ} → InNumbers reading (readOf s t c rows) c n v d left → n ≡ 0
-      → Reads (R.Rows v d) left
-  reads-accepted g = accepted-gives g (reads (behind-numbers g) .answers)
-
-  -- without CTR the state is not altered
-  pub read-unaltered : W s ≡ 0 → {r : Reading} {left : List ℕ} → Reads r left → readState c r ≡ c
-  read-unaltered none g = rw (g .answer) (counter-unaltered s t none rows c)
-
--- nor is it read: two states give the same number, the same place or count, and the same rows
+-- without CTR the state is neither altered nor read: two states give the same number, the same place or count, and the same rows
 pub read-unread : (s : Setting) (t rows : List ℕ) → W s ≡ 0 → (b c : Counter) {r u : Reading} {left past : List ℕ}
-    → Reads s t b rows r left → Reads s t c rows u past → (readNumber r ≡ readNumber u) × (readValue r ≡ readValue u) × (left ≡ past)
+    → Reads s t b rows r left → Reads s t c rows u past
+    → (readState b r ≡ b) × (readNumber r ≡ readNumber u) × (readValue r ≡ readValue u) × (left ≡ past)
 read-unread s t rows none b c = same-told (counter-unread s t none rows b c)
 
 ---- The writer -----------------------------------------------------------------------------------------------------------------
@@ -83,22 +56,9 @@ module _ (s : Setting) (bs ns : List ℕ) (c fill : ℕ) (out : List ℕ) where
   Writes r left = Gives (writeOf s bs ns c fill out) r left
 
   -- refused and accepted exactly when document 01 says so; a refusal changes nothing
-  abbrev pub Wrote : Writing → List ℕ → Type 0
-  Wrote r left = Answers W.Refused W.Bytes (WriteRefusal s bs ns c fill (length out)) (WriteAccept s bs ns c fill (length out)) out r left
-
-  pub writes : {r : Writing} {left : List ℕ} → Writes r left → Wrote r left
-  writes =
-      answers-promised (Laws.write-refused-exactly s bs ns c fill out) (λ n p. Laws.write-number)
-      (λ n p l e. Laws.write-refused-keeps s bs ns c fill out (rw e l) .0) (Laws.written-exactly s bs ns c fill out)
-
-  -- the same where the caller sees numbers
-  pub writes-in-numbers : {n v d : ℕ} {left : List ℕ} → InNumbers writing (writeOf s bs ns c fill out) c n v d left
-      → Numbers (WriteRefusal s bs ns c fill (length out)) (WriteAccept s bs ns c fill (length out)) out c n v d left
-  writes-in-numbers g = numbers-promised g (writes (behind-numbers g))
-
-  pub writes-accepted : {n v d : ℕ} {left : List ℕ} → InNumbers writing (writeOf s bs ns c fill out) c n v d left → n ≡ 0
-      → Writes (W.Bytes v d) left
-  writes-accepted g = accepted-gives g (writes (behind-numbers g))
+  pub writes : {r : Writing} {left : List ℕ} → Writes r left
+      → Answers W.Refused W.Bytes (WriteRefusal s bs ns c fill (length out)) (WriteAccept s bs ns c fill (length out)) out r left
+  writes = answers-promised (write-exact s bs ns c fill out)
 
   -- the packets that are given, and those that a reader sees
   abbrev pub given : List (List ℕ)
@@ -129,15 +89,14 @@ module _ (s : Setting) (bs ns : List ℕ) (c fill : ℕ) (out : List ℕ) where
       let f = Laws.written-front s bs ns c fill out k d e in
       let x = Laws.written-laid s bs ns c fill out k d e in
       let b : Bytes bs ns c (W s) (moved (length ns)) (frame s fill c given) out k d left =
-      bytes-promised g (a .matched) (a .willing .counter) (a .count) (a .next)
-      f (Laws.written-past s bs ns c fill out k d e) in
+      bytes-promised g (a .matched) (a .willing .counter) (a .count) (a .next) f in
       record {
         bytes = b;
         laid = rw (g .lent) x;
         same = λ l. Laws.written-packets s fill c l given;
         alone = λ l. rw (b .joins) at (Laws.written-alone s fill c l given (n ∙ a .counted .one l));
         counter = λ w m. Laws.written-counter m s fill c given (omega (arith, a .counted .some)) w;
-        even = rw (a .count) (rw f at (x .sized .evened .even));
+        even = rw (a .count) (rw (f .0) at (x .sized .evened .even));
         least = Laws.written-least s bs ns c fill out k d e;
       }
 
@@ -146,5 +105,7 @@ module _ (s : Setting) (bs ns : List ℕ) (c fill : ℕ) (out : List ℕ) where
     pub round-trip : {r : Reading} {past : List ℕ} → Reads s (take k left) e rows r past → valid (W s) e ≡ true → 5 * length ns ≤ length rows
         → (r ≡ R.Rows (length ns) (frameState (W s) e sent)) × (take (5 * length ns) past ≡ frameTable (s .direction) (W s) e sent)
     round-trip h v l =
-        let (x, y) = Laws.round-trip s bs ns c fill out k d (sym (g .answer)) e rows v l in
-        (rw (h .answer, g .lent) x, rw (h .lent, g .lent) y)
+        let w = written g in
+        let n : length sent ≡ length ns = Laws.placed-length s fill c given ∙ length-packets ns bs in
+        let (told, rows) = reads s (take k left) e rows h .gives sent (record { setting = w .laid .setting; counter = v }) (w .laid) (omega arith) in
+        (rw n at told, rw n at (rows .front))

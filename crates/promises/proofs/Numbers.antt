@@ -13,12 +13,14 @@ use Rattle.packet.specs.declared.Writing.{Writing}
 use Rattle.packet.specs.declared.Writing.the-variants as W
 use Rattle.packet.specs.Message.{Msg}
 use Rattle.packet.specs.Answer.{Answer, Gives, readNumber, readValue, readState, writeNumber, writeValue, writeCounter}
+use Rattle.packet.proofs.AnswerLaws.{Exact}
+use Rattle.packet.proofs.ReaderLaws.{Rules, Reader}
 use Rattle.lent.specs.declared.Told.{Told}
 use Rattle.lent.specs.Told.{toldOf, toldNumber, toldValue, Tells}
 use Rattle.plumagemud.specs.declared.ReadResult.{ReadResult}
 use Rattle.plumagemud.specs.declared.WriteResult.{WriteResult}
 use Rattle.plumagemud.specs.Result.{Reads, Writes}
-use Rattle.promises.proofs.Call.{Answers, Rules, Room, Accepts, Given, Read}
+use Rattle.promises.proofs.Call.{Room, Accepts, Given, read-promised}
 
 -- How an answer is told in document 01's numbers: its number, 0 where nothing is refused; its value, which is a count or a refusal's place; and the state
 -- or counter that is left of the one given
@@ -83,8 +85,7 @@ module _ {E C : Type 0} {refuse : ℕ → ℕ → E} {accept : ℕ → C → E} 
   pub of-acceptance : {k : ℕ} {e : C} → a .answer ≡ accept k e → (n ≡ 0) × (v ≡ k) × (d ≡ e)
   of-acceptance {k} {e} x = told-as (ap (T .told c) x ∙ T .of-acceptance k e c)
 
-  module _ {Refusal : ℕ → ℕ → Type 0} {Accept : ℕ → C → Type 0} {lent : List ℕ}
-      (h : Answers refuse accept Refusal Accept lent (a .answer) left) where
+  module _ {Refusal : ℕ → ℕ → Type 0} {Accept : ℕ → C → Type 0} {lent : List ℕ} (h : Exact refuse accept Refusal Accept lent a) where
     abbrev Either : Type 0
     Either = ((m : ℕ) × (p : ℕ) × (a .answer ≡ refuse m p)) ⊎ ((k : ℕ) × (e : C) × (a .answer ≡ accept k e))
 
@@ -93,7 +94,7 @@ module _ {E C : Type 0} {refuse : ℕ → ℕ → E} {accept : ℕ → C → E} 
     accepted-answer z = at (T .either (a .answer))
       where
         at : Either → a .answer ≡ accept v d
-        at (inl (i, q, y)) = absurd (omega (arith, of-refusal y .0, h .refusal i q y .0))
+        at (inl (i, q, y)) = absurd (omega (arith, of-refusal y .0, h .number i q (h .refused i q .0 y)))
         at (inr (i, f, y)) = let (o, count, counter) = of-acceptance y in rw (count, counter) y
 
     -- so what is promised of a call that answers so is promised of this one
@@ -122,8 +123,8 @@ module _ {E C : Type 0} {refuse : ℕ → ℕ → E} {accept : ℕ → C → E} 
         unchanged : Either → 0 < n → (n ≤ 8) × (left ≡ lent) × (d ≡ c)
         unchanged (inl (i, q, e)) l =
             let (y, z, o) = of-refusal e in
-            let (least, most, same) = h .refusal i q e in
-            (omega arith, same, o)
+            let (least, most) = h .number i q (h .refused i q .0 e) in
+            (omega arith, g .lent ∙ h .keeps i q e, o)
         unchanged (inr (k, e, y)) l = absurd (omega (arith, of-acceptance y .0))
 
         accepts : (k : ℕ) (e : C) → (n ≡ 0) × (v ≡ k) × (d ≡ e) → Accept k e
@@ -134,17 +135,17 @@ module _ {E C : Type 0} {refuse : ℕ → ℕ → E} {accept : ℕ → C → E} 
 ---- Readers --------------------------------------------------------------------------------------------------------------------
 
 -- a read gives the messages ms too, where it is accepted
-pub record ReadNumbers (S : Rules) (c : Counter) (n v : ℕ) (d : Counter) (left : List ℕ) : Type 0 where
-  pub numbers : Numbers (S .Refusal) (Accepts S) (S .table) c n v d left
+pub record ReadNumbers {input table : List ℕ} (S : Rules input table) (c : Counter) (n v : ℕ) (d : Counter) (left : List ℕ) : Type 0 where
+  pub numbers : Numbers (S .Refusal) (Accepts S) table c n v d left
   pub gives : (ms : List Msg) → S .Fine → S .Whole ms → Room S ms → (n ≡ 0) × (v ≡ length ms) × (d ≡ S .state ms) × Given S left ms
 
-pub read-numbers : {S : Rules} {a : Answer Reading} {c : Counter} {n v : ℕ} {d : Counter} {left : List ℕ} → InNumbers reading a c n v d left
-    → Read S (a .answer) left → ReadNumbers S c n v d left
-read-numbers g h =
+pub read-numbers : {input table : List ℕ} {S : Rules input table} {a : Answer Reading} {c : Counter} {n v : ℕ} {d : Counter} {left : List ℕ}
+    → Reader S a → InNumbers reading a c n v d left → ReadNumbers S c n v d left
+read-numbers x g =
     record {
-      numbers = numbers-promised g (h .answers);
-      gives = λ ms f x l.
-          let (told, given) = h .gives ms f x l in
+      numbers = numbers-promised g (x .exact);
+      gives = λ ms f w l.
+          let (told, given) = read-promised x (behind-numbers g) .gives ms f w l in
           let (y, z, o) = of-acceptance g told in
           (y, z, o, given);
     }

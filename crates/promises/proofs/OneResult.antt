@@ -1,4 +1,4 @@
--- For every input a contract determines what its function answers, and what it leaves of what was lent: any two results that it allows are equal. One line
+-- For every input a contract determines what its function answers, and what it leaves of what was lent: any two results that it allows are equal. One part
 -- for each public function that asks nothing, about the contract that stands in its code (`Post`: see Tied), and for both programs' report and two of layout's.
 -- The exceptions are listed in docs/DECISIONS.md, 'What a contract leaves open'.
 use Prim.Native.Nat.{ℕ}
@@ -56,31 +56,30 @@ use Rattle.plumagemud.proofs.xcp_flexray_write.Reads as CFlexRayWrite
 use Rattle.plumagemud.proofs.xcp_part_check.Reads as CCheck
 use Rattle.plumagemud.proofs.xcp_kind.Reads as CKind
 
--- any two answers r and u that a contract allows are equal; e and f are the parameters as the call leaves them
-abbrev pub One : {R E : Type 0} → (R → E → Type 0) → Type 0
-One {R} {E} Post = (r u : R) (e f : E) → Post r e → Post u f → r ≡ u
+-- A contract of the lifetimes x, the parameters a, the answer, and the parameters as the call leaves them
+module _ {X : Type 0} {A R E : X → Type 0} where
+  infixl 20 _allows-one
+  infixl 20 _allows-one-and_
+  -- any two answers r and u that it allows are equal, where e and f are what the call leaves
+  abbrev pub _allows-one : ((x : X) → A x → R x → E x → Type 0) → Type 0
+  _allows-one Post = (x : X) (a : A x) (r u : R x) (e f : E x) → Post x a r e → Post x a u f → r ≡ u
 
--- the same of an answer and of what is left of what was lent, which `left` takes out of e
-abbrev pub Both : {R E : Type 0} → (E → List ℕ) → (R → E → Type 0) → Type 0
-Both {R} {E} left Post = (r u : R) (e f : E) → Post r e → Post u f → (r ≡ u) × (left e ≡ left f)
+  -- the same of an answer and of what is left of what was lent, which `left` takes out of e
+  abbrev pub _allows-one-and_ : ((x : X) → A x → R x → E x → Type 0) → ((x : X) → E x → List ℕ) → Type 0
+  _allows-one-and_ Post left = (x : X) (a : A x) (r u : R x) (e f : E x) → Post x a r e → Post x a u f → (r ≡ u) × (left x e ≡ left x f)
 
 -- what is equal to one thing is equal
-same : {A : Type 0} {x r u : A} → r ≡ x → u ≡ x → r ≡ u
-same g h = g ∙ sym h
+same : {A E : Type 0} {x : A} (r u : A) (e f : E) → r ≡ x → u ≡ x → r ≡ u
+same r u e f g h = g ∙ sym h
 
 ---- Readers and writers --------------------------------------------------------------------------------------------------------
 
-pub usb-read : (x : _) (a : _) → Both (λ e. e .1 .1 .1 .0 .now) (UsbRead.Post x a)
-usb-read x a r u e f = one-result
+-- the answer, and the table or the output
+pub usb : (UsbRead.Post allows-one-and λ x e. e .1 .1 .1 .0 .now) × (UsbWrite.Post allows-one-and λ x e. e .1 .1 .1 .1 .1 .1 .0 .now)
+usb = (λ x a r u e f. one-result, λ x a r u e f. one-result)
 
-pub usb-write : (x : _) (a : _) → Both (λ e. e .1 .1 .1 .1 .1 .1 .0 .now) (UsbWrite.Post x a)
-usb-write x a r u e f = one-result
-
-pub flexray-read : (x : _) (a : _) → Both (λ e. e .1 .1 .1 .0 .now) (FlexRayRead.Post x a)
-flexray-read x a r u e f = one-result
-
-pub flexray-write : (x : _) (a : _) → Both (λ e. e .1 .1 .1 .1 .1 .0 .now) (FlexRayWrite.Post x a)
-flexray-write x a r u e f = one-result
+pub flexray : (FlexRayRead.Post allows-one-and λ x e. e .1 .1 .1 .0 .now) × (FlexRayWrite.Post allows-one-and λ x e. e .1 .1 .1 .1 .1 .0 .now)
+flexray = (λ x a r u e f. one-result, λ x a r u e f. one-result)
 
 -- with the state lent, by what the clauses of usb_reader's and flexray_reader's read_lent come to (Tied `usb-lent`, `flexray-lent`): what is told, the state
 -- and the table
@@ -95,129 +94,63 @@ one-lent {r = r} {u = u} g h =
     let lent : Told → Counter → Lent = λ x d. record { told = x; state = d } in
     (ap (λ x. lent x (r .state)) told ∙ ap (lent (u .told)) state, rows)
 
-pub lending-usb : (x : _) (a : _) → Both (λ e. e .1 .1 .1 .0 .now) (LendUsb.Post x a)
-lending-usb x a r u e f = one-lent
-
-pub lending-flexray : (x : _) (a : _) → Both (λ e. e .1 .1 .1 .0 .now) (LendFlexRay.Post x a)
-lending-flexray x a r u e f = one-lent
+pub lending : (LendUsb.Post allows-one-and λ x e. e .1 .1 .1 .0 .now) × (LendFlexRay.Post allows-one-and λ x e. e .1 .1 .1 .0 .now)
+lending = (λ x a r u e f. one-lent, λ x a r u e f. one-lent)
 
 ---- C --------------------------------------------------------------------------------------------------------------------------
 
-pub c-settings : (x : _) (a : _) → One (CSettings.Post x a)
-c-settings x a r u e f = same
+pub c-read : (CUsbRead.Post allows-one-and λ x e. e .1 .1 .1 .0 .now) × (CFlexRayRead.Post allows-one-and λ x e. e .1 .1 .1 .0 .now)
+c-read = (λ x a r u e f. one-read, λ x a r u e f. one-read)
 
-pub c-usb-read : (x : _) (a : _) → Both (λ e. e .1 .1 .1 .0 .now) (CUsbRead.Post x a)
-c-usb-read x a r u e f = one-read
+pub c-write : (CUsbWrite.Post allows-one-and λ x e. e .1 .1 .1 .1 .1 .1 .0 .now) × (CFlexRayWrite.Post allows-one-and λ x e. e .1 .1 .1 .1 .1 .0 .now)
+c-write = (λ x a r u e f. one-written, λ x a r u e f. one-written)
 
-pub c-usb-write : (x : _) (a : _) → Both (λ e. e .1 .1 .1 .1 .1 .1 .0 .now) (CUsbWrite.Post x a)
-c-usb-write x a r u e f = one-written
-
-pub c-flexray-read : (x : _) (a : _) → Both (λ e. e .1 .1 .1 .0 .now) (CFlexRayRead.Post x a)
-c-flexray-read x a r u e f = one-read
-
-pub c-flexray-write : (x : _) (a : _) → Both (λ e. e .1 .1 .1 .1 .1 .0 .now) (CFlexRayWrite.Post x a)
-c-flexray-write x a r u e f = one-written
-
-pub c-part-check : (x : _) (a : _) → One (CCheck.Post x a)
-c-part-check x a r u e f = same
-
-pub c-kind : (x : _) (a : _) → One (CKind.Post x a)
-c-kind x a r u e f = same
+pub c-others : (CSettings.Post allows-one) × (CCheck.Post allows-one) × (CKind.Post allows-one)
+c-others = (λ x a. same, λ x a. same, λ x a. same)
 
 ---- The programs ---------------------------------------------------------------------------------------------------------------
 
 -- the length of the text, and the output; what is left of the table is not told (docs/DECISIONS.md)
-pub report : (x : _) (a : _) → Both (λ e. e .1 .1 .0 .now) (Report.Post x a)
-report x a r u e f = one-report
-
-pub setting-report : (x : _) (a : _) → Both (λ e. e .1 .1 .0 .now) (SettingReport.Post x a)
-setting-report x a r u e f = one-report
+pub reports : (Report.Post allows-one-and λ x e. e .1 .1 .0 .now) × (SettingReport.Post allows-one-and λ x e. e .1 .1 .0 .now)
+reports = (λ x a r u e f. one-report, λ x a r u e f. one-report)
 
 -- the longest packet, from the program's argument
-pub argument : (x : _) (a : _) → One (Argument.Post x a)
-argument x a r u e f = same
+pub argument : Argument.Post allows-one
+argument x a = same
 
 ---- Settings -------------------------------------------------------------------------------------------------------------------
 
--- from the description file
-pub settings : (x : _) (a : _) → One (Settings.Post x a)
-settings x a r u e f = same
+-- from the description file; what a header number comes to
+pub settings : (Settings.Post allows-one) × (UsbShape.Post allows-one) × (FlexRayListed.Post allows-one)
+settings = (λ x a. same, λ x a. same, λ x a. same)
 
-pub usb-shape : (x : _) (a : _) → One (UsbShape.Post x a)
-usb-shape x a r u e f = same
-
--- a plan of numbers, and the layouts that have rests
-pub joined : (x : _) (a : _) → One (Joined.Post x a)
-joined x a r u e f = same
-
-pub rests : (x : _) (a : _) → One (Rests.Post x a)
-rests x a r u e f = same
-
--- the plan of a setting, or that it is not sound
-pub usb-plan-for : (x : _) (a : _) → One (UsbPlanFor.Post x a)
-usb-plan-for x a r u e f = same
-
-pub flexray-listed : (x : _) (a : _) → One (FlexRayListed.Post x a)
-flexray-listed x a r u e f = same
-
-pub flexray-further : (x : _) (a : _) → One (FlexRayFurther.Post x a)
-flexray-further x a r u e f = same
-
-pub flexray-plan-for : (x : _) (a : _) → One (FlexRayPlanFor.Post x a)
-flexray-plan-for x a r u e f = same
+-- a plan of numbers, and the layouts that have rests; the plan of a setting, or that it is not sound
+pub plans : (Joined.Post allows-one) × (Rests.Post allows-one) × (UsbPlanFor.Post allows-one) × (FlexRayFurther.Post allows-one)
+    × (FlexRayPlanFor.Post allows-one)
+plans = (λ x a. same, λ x a. same, λ x a. same, λ x a. same, λ x a. same)
 
 ---- Packets --------------------------------------------------------------------------------------------------------------------
 
-pub counter-fresh : (x : _) (a : _) → One (Fresh.Post x a)
-counter-fresh x a r u e f = same
-
-pub gap8 : (x : _) (a : _) → One (GapOne.Post x a)
-gap8 x a r u e f = same
-
-pub gap16 : (x : _) (a : _) → One (GapTwo.Post x a)
-gap16 x a r u e f = same
-
-pub kind : (x : _) (a : _) → One (Kind.Post x a)
-kind x a r u e f = same
-
-pub part-check : (x : _) (a : _) → One (Check.Post x a)
-part-check x a r u e f = same
+pub packet : (Fresh.Post allows-one) × (GapOne.Post allows-one) × (GapTwo.Post allows-one) × (Kind.Post allows-one) × (Check.Post allows-one)
+packet = (λ x a. same, λ x a. same, λ x a. same, λ x a. same, λ x a. same)
 
 -- the bytes that the part shows
 pub part : (x : _) (a : _) (r u : _) (e f : _) → Part.Post x a r e → Part.Post x a u f → r .now ≡ u .now
-part x a r u e f = same
+part x a r u e f = same (r .now) (u .now) e f
 
 ---- What writers check ---------------------------------------------------------------------------------------------------------
 
-pub mismatched : (x : _) (a : _) → One (Mismatched.Post x a)
-mismatched x a r u e f = same
-
-pub crowded : (x : _) (a : _) → One (Crowded.Post x a)
-crowded x a r u e f = same
+pub checks : (Mismatched.Post allows-one) × (Crowded.Post allows-one)
+checks = (λ x a. same, λ x a. same)
 
 ---- Fields, numbers and tests --------------------------------------------------------------------------------------------------
 
-pub field : (x : _) (a : _) → One (Field.Post x a)
-field x a r u e f g h = same (g .is) (h .is)
+pub numbers : (Field.Post allows-one) × (Wide.Post allows-one) × (Least.Post allows-one) × (Pick.Post allows-one)
+numbers = (λ x a r u e f g h. same r u e f (g .is) (h .is), λ x a r u e f g h. same r u e f (g .0) (h .0), λ x a. same, λ x a. same)
+
+pub tests : (BothTests.Post allows-one) × (All.Post allows-one) × (Either.Post allows-one)
+tests = (λ x a. same, λ x a. same, λ x a. same)
 
 -- the bytes that are left
 pub put-field : (x : _) (a : _) (r u : _) (e f : _) → PutField.Post x a r e → PutField.Post x a u f → e .0 .now ≡ f .0 .now
-put-field x a r u e f = same
-
-pub wide32 : (x : _) (a : _) → One (Wide.Post x a)
-wide32 x a r u e f g h = same (g .0) (h .0)
-
-pub least : (x : _) (a : _) → One (Least.Post x a)
-least x a r u e f = same
-
-pub pick : (x : _) (a : _) → One (Pick.Post x a)
-pick x a r u e f = same
-
-pub both : (x : _) (a : _) → One (BothTests.Post x a)
-both x a r u e f = same
-
-pub all : (x : _) (a : _) → One (All.Post x a)
-all x a r u e f = same
-
-pub either : (x : _) (a : _) → One (Either.Post x a)
-either x a r u e f = same
+put-field x a r u e f = same (e .0 .now) (f .0 .now) e f

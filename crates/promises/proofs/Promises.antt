@@ -59,7 +59,7 @@ use Rattle.plumagemud.specs.declared.WriteResult.{WriteResult}
 use Rattle.plumagemud.specs.Result.{checkResult, Reads, Writes}
 use Rattle.promises.proofs.Call as Call
 use Rattle.promises.proofs.Call.{IsRows, Given}
-use Rattle.promises.proofs.Numbers.{Numbers, ReadNumbers, lent-numbers, c-reads, c-writes}
+use Rattle.promises.proofs.Numbers.{Numbers, ReadNumbers, numbers-promised, read-numbers, accepted-gives, lent-numbers, c-reads, c-writes}
 use Rattle.promises.proofs.Usb as Usb
 use Rattle.promises.proofs.Flexray as Flexray
 use Rattle.promises.proofs.Description as Description
@@ -97,7 +97,7 @@ module _ (s : UsbSetting.Setting) (t : List ℕ) (c : Counter) (rows : List ℕ)
     (call : Tells (UsbReading.readOf s t c rows) c u d left) where
   -- what a refusal leaves of the table and of the state: both as they were
   pub usb-lent-unchanged : 0 < toldNumber u → (toldNumber u ≤ 8) × (left ≡ rows) × (d ≡ c)
-  usb-lent-unchanged = Usb.reads-in-numbers s t c rows (lent-numbers call) .numbers .refusal
+  usb-lent-unchanged = read-numbers (Usb.read-exact s t c rows) (lent-numbers call) .numbers .refusal
 
 -- usb_writer::write
 module _ (s : UsbSetting.Setting) (bs ns : List ℕ) (c fill : ℕ) (full : Bool) (out : List ℕ) {r : Writing} {left : List ℕ}
@@ -122,7 +122,7 @@ module _ (s : FlexRaySetting.Setting) (t : List ℕ) (c : Counter) (rows : List 
     (call : Tells (FlexRayReading.readOf s t c rows) c u d left) where
   -- what a refusal leaves of the table and of the state: both as they were
   pub flexray-lent-unchanged : 0 < toldNumber u → (toldNumber u ≤ 8) × (left ≡ rows) × (d ≡ c)
-  flexray-lent-unchanged = Flexray.reads-in-numbers s t c rows (lent-numbers call) .numbers .refusal
+  flexray-lent-unchanged = read-numbers (Flexray.read-exact s t c rows) (lent-numbers call) .numbers .refusal
 
 -- flexray_writer::write
 module _ (s : FlexRaySetting.Setting) (bs ns : List ℕ) (c fill : ℕ) (out : List ℕ) {r : Writing} {left : List ℕ}
@@ -285,44 +285,44 @@ settings-same = Description.reads-same
 module _ (s : UsbSetting.Setting) (t : List ℕ) (c : Counter) (rows : List ℕ) where
   pub usb-lent-numbers : {u : Told} {d : Counter} {left : List ℕ} → Tells (UsbReading.readOf s t c rows) c u d left
       → ReadNumbers (Usb.rules s t c rows) c (toldNumber u) (toldValue u) d left
-  usb-lent-numbers call = Usb.reads-in-numbers s t c rows (lent-numbers call)
+  usb-lent-numbers call = read-numbers (Usb.read-exact s t c rows) (lent-numbers call)
 
   module _ {x : ReadResult} {left : List ℕ} (call : Reads (UsbReading.readOf s t c rows) c x left) where
     pub xcp-usb-read : ReadNumbers (Usb.rules s t c rows) c (x .number) (x .value) (x .counter) left
-    xcp-usb-read = Usb.reads-in-numbers s t c rows (c-reads call)
+    xcp-usb-read = read-numbers (Usb.read-exact s t c rows) (c-reads call)
 
     pub xcp-usb-rows : x .number ≡ 0 → Usb.Reads s t c rows (R.Rows (x .value) (x .counter)) left
-    xcp-usb-rows = Usb.reads-accepted s t c rows (c-reads call)
+    xcp-usb-rows = accepted-gives (c-reads call) (Usb.read-exact s t c rows .exact)
 
 module _ (s : UsbSetting.Setting) (bs ns : List ℕ) (c fill : ℕ) (full : Bool) (out : List ℕ) {x : WriteResult} {left : List ℕ}
     (call : Writes (UsbWriting.writeOf s bs ns c fill full out) c x left) where
   pub xcp-usb-write : Numbers (UsbRefusal.WriteRefusal s bs ns c fill full (length out)) (UsbRefusal.WriteAccept s bs ns c fill full (length out)) out c
       (x .number) (x .value) (x .counter) left
-  xcp-usb-write = Usb.writes-in-numbers s bs ns c fill full out (c-writes call)
+  xcp-usb-write = numbers-promised (c-writes call) (Usb.write-exact s bs ns c fill full out)
 
   pub xcp-usb-bytes : x .number ≡ 0 → Usb.Writes s bs ns c fill full out (W.Bytes (x .value) (x .counter)) left
-  xcp-usb-bytes = Usb.writes-accepted s bs ns c fill full out (c-writes call)
+  xcp-usb-bytes = accepted-gives (c-writes call) (Usb.write-exact s bs ns c fill full out)
 
 module _ (s : FlexRaySetting.Setting) (t : List ℕ) (c : Counter) (rows : List ℕ) where
   pub flexray-lent-numbers : {u : Told} {d : Counter} {left : List ℕ} → Tells (FlexRayReading.readOf s t c rows) c u d left
       → ReadNumbers (Flexray.rules s t c rows) c (toldNumber u) (toldValue u) d left
-  flexray-lent-numbers call = Flexray.reads-in-numbers s t c rows (lent-numbers call)
+  flexray-lent-numbers call = read-numbers (Flexray.read-exact s t c rows) (lent-numbers call)
 
   module _ {x : ReadResult} {left : List ℕ} (call : Reads (FlexRayReading.readOf s t c rows) c x left) where
     pub xcp-flexray-read : ReadNumbers (Flexray.rules s t c rows) c (x .number) (x .value) (x .counter) left
-    xcp-flexray-read = Flexray.reads-in-numbers s t c rows (c-reads call)
+    xcp-flexray-read = read-numbers (Flexray.read-exact s t c rows) (c-reads call)
 
     pub xcp-flexray-rows : x .number ≡ 0 → Flexray.Reads s t c rows (R.Rows (x .value) (x .counter)) left
-    xcp-flexray-rows = Flexray.reads-accepted s t c rows (c-reads call)
+    xcp-flexray-rows = accepted-gives (c-reads call) (Flexray.read-exact s t c rows .exact)
 
 module _ (s : FlexRaySetting.Setting) (bs ns : List ℕ) (c fill : ℕ) (out : List ℕ) {x : WriteResult} {left : List ℕ}
     (call : Writes (FlexRayWriting.writeOf s bs ns c fill out) c x left) where
   pub xcp-flexray-write : Numbers (FlexRayRefusal.WriteRefusal s bs ns c fill (length out)) (FlexRayRefusal.WriteAccept s bs ns c fill (length out)) out c
       (x .number) (x .value) (x .counter) left
-  xcp-flexray-write = Flexray.writes-in-numbers s bs ns c fill out (c-writes call)
+  xcp-flexray-write = numbers-promised (c-writes call) (Flexray.write-exact s bs ns c fill out)
 
   pub xcp-flexray-bytes : x .number ≡ 0 → Flexray.Writes s bs ns c fill out (W.Bytes (x .value) (x .counter)) left
-  xcp-flexray-bytes = Flexray.writes-accepted s bs ns c fill out (c-writes call)
+  xcp-flexray-bytes = accepted-gives (c-writes call) (Flexray.write-exact s bs ns c fill out)
 
 -- xcp_usb_settings: number 0 with place 0 and the settings exactly if they are accepted; a number above 0 and its place exactly if the text is refused so, and
 -- then all twelve numbers of the settings are 0

@@ -1,10 +1,11 @@
 -- What is promised of usb_reader::read and usb_writer::write: each theorem is about any answer r that the function's contract allows, and about
 -- the lent table or output as the call then leaves it. OneResult says that there is only one.
 use Prim.Native.Nat.{ℕ, _+_, _-_, _*_, _/_, _%_, _<_, _≤_}
-use mathlib.Core.Path.{_≡_, refl, sym, ap}
+use native.Mathlib.Omega.{arith}
+use mathlib.Core.Path.{_≡_, refl, sym, ap, _∙_}
 use mathlib.Core.Bool.{Bool, true, false}
 use mathlib.Core.List.{List, [], map}
-use lib.ListN.{length, take, getD}
+use lib.ListN.{length, length-map, take, getD}
 use Rattle.packet.specs.declared.Counter.{Counter}
 use Rattle.packet.specs.declared.Reading.{Reading}
 use Rattle.packet.specs.declared.Reading.the-variants as R
@@ -21,16 +22,16 @@ use Rattle.usb.specs.Setting.{H, W}
 use Rattle.usb.specs.Layout.{Transfer}
 use Rattle.usb.specs.Reading.{readOf}
 use Rattle.usb.specs.Writing.{write, placed, writeOf}
-use Rattle.usb.specs.Refusal.{Fine, ReadRefusal, WriteRefusal, WriteAccept}
+use Rattle.usb.specs.Refusal.{WriteRefusal, WriteAccept}
 use Rattle.usb.proofs.SettingLaws.{good}
-use Rattle.usb.proofs.ReadLaws.{read-unique, parts-show}
-use Rattle.usb.proofs.RefusalLaws.{refused-exactly, read-number, refused-keeps, accepted-exactly, accepted-rows, counter-unread, counter-unaltered}
+use Rattle.usb.proofs.RefusalLaws.{counter-unread}
 use Rattle.usb.proofs.WriteLaws as Laws
+pub use Rattle.usb.proofs.RefusalLaws.{rules, read-exact}
+pub use Rattle.usb.proofs.WriteLaws.{write-exact}
 use Rattle.usb.proofs.WrittenLaws.{placed-packets, placed-counter}
 use Rattle.usb.proofs.FirstLaws.{AtFirst, placed-first, filled-up, empty-none}
 use Rattle.usb.proofs.BoundLaws.{total, stream-bound}
-use Rattle.promises.proofs.Call.{Answers, answers-promised, Rules, Read, read-promised, same-told, Bytes, bytes-promised}
-use Rattle.promises.proofs.Numbers.{reading, writing, InNumbers, behind-numbers, accepted-gives, Numbers, numbers-promised, ReadNumbers, read-numbers}
+use Rattle.promises.proofs.Call.{Answers, answers-promised, Read, read-promised, same-told, Bytes, bytes-promised}
 
 ---- The reader -----------------------------------------------------------------------------------------------------------------
 
@@ -40,41 +41,14 @@ module _ (s : Setting) (t : List ℕ) (c : Counter) (rows : List ℕ) where
   abbrev pub Reads : Reading → List ℕ → Type 0
   Reads r left = Gives (readOf s t c rows) r left
 
-  -- what document 01 says of such a call
-  abbrev pub rules : Rules
-  rules =
-      record {
-        input = t;
-        table = rows;
-        Refusal = ReadRefusal s t c (length rows);
-        Fine = Fine s c;
-        Whole = λ ms. Transfer s ms t;
-        rows = table (s .direction) (W s) c;
-        state = behind (W s) c;
-      }
+  -- refused and accepted exactly when document 01 says so; a refusal changes nothing; and demand 3
+  pub reads : {r : Reading} {left : List ℕ} → Reads r left → Read (rules s t c rows) r left
+  reads = read-promised (read-exact s t c rows)
 
-  -- refused and accepted exactly when it says so; a refusal changes nothing; and demand 3
-  pub reads : {r : Reading} {left : List ℕ} → Reads r left → Read rules r left
-  reads =
-      read-promised (refused-exactly s t c rows) (λ n p. read-number) (refused-keeps s t c rows) (accepted-exactly s t c rows) (accepted-rows s t c rows)
-      (read-unique s t) (parts-show s t)
-
-  -- the same where the caller sees numbers
-  pub reads-in-numbers : {n v : ℕ} {d : Counter} {left : List ℕ} → InNumbers reading (readOf s t c rows) c n v d left → ReadNumbers rules c n v d left
-  reads-in-numbers g = read-numbers g (reads (behind-numbers g))
-
-  -- and number 0 tells that it is accepted
-  pub reads-accepted : {n v : ℕ} {d : Counter} {left : List ℕ} → InNumbers reading (readOf s t c rows) c n v d left → n ≡ 0
-      → Reads (R.Rows v d) left
-  reads-accepted g = accepted-gives g (reads (behind-numbers g) .answers)
-
-  -- without CTR the state is not altered
-  pub read-unaltered : W s ≡ 0 → {r : Reading} {left : List ℕ} → Reads r left → readState c r ≡ c
-  read-unaltered none g = rw (g .answer) (counter-unaltered s t none rows c)
-
--- nor is it read: two states give the same number, the same place or count, and the same rows
+-- without CTR the state is neither altered nor read: two states give the same number, the same place or count, and the same rows
 pub read-unread : (s : Setting) (t rows : List ℕ) → W s ≡ 0 → (b c : Counter) {r u : Reading} {left past : List ℕ}
-    → Reads s t b rows r left → Reads s t c rows u past → (readNumber r ≡ readNumber u) × (readValue r ≡ readValue u) × (left ≡ past)
+    → Reads s t b rows r left → Reads s t c rows u past
+    → (readState b r ≡ b) × (readNumber r ≡ readNumber u) × (readValue r ≡ readValue u) × (left ≡ past)
 read-unread s t rows none b c = same-told (counter-unread s t none rows b c)
 
 ---- The writer -----------------------------------------------------------------------------------------------------------------
@@ -86,22 +60,9 @@ module _ (s : Setting) (bs ns : List ℕ) (c fill : ℕ) (full : Bool) (out : Li
   Writes r left = Gives (writeOf s bs ns c fill full out) r left
 
   -- refused and accepted exactly when document 01 says so; a refusal changes nothing
-  abbrev pub Wrote : Writing → List ℕ → Type 0
-  Wrote r left = Answers W.Refused W.Bytes (WriteRefusal s bs ns c fill full (length out)) (WriteAccept s bs ns c fill full (length out)) out r left
-
-  pub writes : {r : Writing} {left : List ℕ} → Writes r left → Wrote r left
-  writes =
-      answers-promised (Laws.write-refused-exactly s bs ns c fill full out) (λ n p. Laws.write-number)
-      (λ n p l e. Laws.write-refused-keeps s bs ns c fill full out (rw e l) .0) (Laws.written-exactly s bs ns c fill full out)
-
-  -- the same where the caller sees numbers
-  pub writes-in-numbers : {n v d : ℕ} {left : List ℕ} → InNumbers writing (writeOf s bs ns c fill full out) c n v d left
-      → Numbers (WriteRefusal s bs ns c fill full (length out)) (WriteAccept s bs ns c fill full (length out)) out c n v d left
-  writes-in-numbers g = numbers-promised g (writes (behind-numbers g))
-
-  pub writes-accepted : {n v d : ℕ} {left : List ℕ} → InNumbers writing (writeOf s bs ns c fill full out) c n v d left → n ≡ 0
-      → Writes (W.Bytes v d) left
-  writes-accepted g = accepted-gives g (writes (behind-numbers g))
+  pub writes : {r : Writing} {left : List ℕ} → Writes r left
+      → Answers W.Refused W.Bytes (WriteRefusal s bs ns c fill full (length out)) (WriteAccept s bs ns c fill full (length out)) out r left
+  writes = answers-promised (write-exact s bs ns c fill full out)
 
   -- the packets that are given, and the messages that come to stand
   abbrev pub given : List (List ℕ)
@@ -135,7 +96,7 @@ module _ (s : Setting) (bs ns : List ℕ) (c fill : ℕ) (full : Bool) (out : Li
       record {
         bytes =
             bytes-promised g (a .matched) (a .willing .counter) (a .count) (a .next)
-            (Laws.written-front s bs ns c fill full out k d e) (Laws.written-past s bs ns c fill full out k d e);
+            (Laws.written-front s bs ns c fill full out k d e);
         laid = rw (g .lent) (Laws.written-laid s bs ns c fill full out k d e);
         same = placed-packets s (good s ok) fill 0 c given;
         counters = λ w m i l. placed-counter s (good s ok) fill m 0 c given i w (rw n l);
@@ -151,5 +112,7 @@ module _ (s : Setting) (bs ns : List ℕ) (c fill : ℕ) (full : Bool) (out : Li
         → (r ≡ R.Rows (length ns) (behind (W s) e sent)) × (take (5 * length ns) past ≡ table (s .direction) (W s) e sent)
         × (map (λ m. m .packet) sent ≡ given)
     round-trip h v l =
-        let (x, y, z) = Laws.round-trip s bs ns c fill full out k d (sym (g .answer)) e rows v l in
-        (rw (h .answer, g .lent) x, rw (h .lent, g .lent) y, z)
+        let w = written g in
+        let n : length sent ≡ length ns = sym (length-map sent (λ m. m .packet)) ∙ ap length (w .same) ∙ length-packets ns bs in
+        let (told, rows) = reads s (take k left) e rows h .gives sent (record { setting = w .laid .setting; counter = v }) (w .laid) (omega arith) in
+        (rw n at told, rw n at (rows .front), w .same)

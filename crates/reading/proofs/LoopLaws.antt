@@ -2,10 +2,11 @@
 use Prim.Native.Nat.{ℕ, suc, _+_, _*_, _<_, _≤_}
 use native.Mathlib.Omega.{arith}
 use native.Mathlib.Nat.{add-zero}
-use mathlib.Core.Path.{_≡_, refl, sym, _∙_}
+use mathlib.Core.Path.{_≡_, refl, sym, ap, _∙_}
 use mathlib.Core.List.{List, [], _∷_}
 use lib.ListN.{length}
-use Rattle.layout.specs.Walk.{Out, before, Out.list, Out.refused}
+use borrow.Author.Needs.{needs}
+use Rattle.layout.specs.Walk.{Out, Out.list, Out.refused}
 use Rattle.packet.specs.declared.At.{At}
 use Rattle.packet.specs.declared.Counter.{Counter}
 use Rattle.packet.specs.declared.Found.{Found}
@@ -22,67 +23,38 @@ use Rattle.rows.specs.Rows.{Putting, Put}
 use Rattle.rows.proofs.CountLaws.{counted-before}
 use Rattle.rows.proofs.FillLaws.{fill-room, fill-message, fill-rest, fill-nothing}
 use Rattle.reading.specs.Step.{seen}
-use Rattle.reading.specs.Reads.{then, turns, reads}
-use Rattle.reading.specs.Loops.{Standing, Counted, Fillable, Ahead, Going, Finds, Ahead.crosses, Ahead.passes}
-use Rattle.reading.proofs.ViewLaws.{view, Moved, Crossed, refuses}
-use Rattle.reading.proofs.ViewLaws.{crosses as crosses-view, passes as passes-view}
-use Rattle.reading.proofs.WalkLaws.{reads-on}
+use Rattle.reading.specs.Reads.{then, reads}
+use Rattle.reading.specs.Loops.{Standing, Counted, Fillable, Ahead, Going, Finds}
+use Rattle.reading.proofs.ViewLaws.{view, refuses}
+use Rattle.reading.proofs.WalkLaws.{reads-on, Crossing, crossing, passing}
 
 -- behind j rows, k rows were counted up to a place, and what is ahead of it, counted on, is the whole
 pub record Judging (p : Plan) (t : List ℕ) (j : ℕ) (from a : At) (k : ℕ) : Type 0 where
   pub upto : Counted p t a k
   pub same : counted j (reads p t from) ≡ counted k (reads p t a)
 
-module _ {p : Plan} {t : List ℕ} {j : ℕ} {from : At} where
-  pub judging : Counted p t from j → Judging p t j from from j
-  judging c = record { upto = c; same = refl }
+module _ {p : Plan} {t : List ℕ} {j : ℕ} {from a : At} {k : ℕ} (i : Judging p t j from a k) where
+  abbrev here : Standing p t a
+  here = i .upto .standing
 
-  module _ {a : At} {k : ℕ} (i : Judging p t j from a k) where
-    abbrev here : Standing p t a
-    here = i .upto .standing
+  pub message-judged : {m : Found} {b : At} → S.Message m b ≡ seen p t a → Judging p t j from b (k + 1)
+  message-judged {m} {b} e =
+      let x = crossing here e in
+      let y = i .same ∙ ap (counted k) (x .reads-is) ∙ counted-before k (message t m) (reads p t b) in
+      search needs
 
-    module _ {m : Found} {b : At} (e : S.Message m b ≡ seen p t a) where
-      crossed : Crossed p t a m b
-      crossed = crosses-view here (rw (← e) at (view p t a))
+  pub rest-judged : {b : At} → S.Rest b ≡ seen p t a → Judging p t j from b k
+  rest-judged e =
+      let x = passing here e in
+      let y = i .same ∙ ap (counted k) (x .reads-is) in
+      search needs
 
-      pub message-less : turns t b < turns t a
-      message-less = crossed .moved .less
+  pub refused-judged : {n q : ℕ} → S.Refused n q ≡ seen p t a → JudgedAs j (reads p t from) (length t) (Refused n q)
+  refused-judged e =
+      record { is = sym (i .same ∙ rw (reads-on here, ← e)); small = refuses here (rw (← e) at (view p t a)) }
 
-      pub message-judged : Judging p t j from b (k + 1)
-      message-judged =
-          record {
-            upto = record {
-              standing = crossed .moved .standing;
-              few = omega (arith, crossed .on, i .upto .few);
-              least = omega (arith, crossed .from, i .upto .few);
-            };
-            same = i .same ∙ rw (reads-on here, ← e) (counted-before k (message t m) (reads p t b));
-          }
-
-    module _ {b : At} (e : S.Rest b ≡ seen p t a) where
-      passed : Moved p t a b
-      passed = passes-view here (rw (← e) at (view p t a))
-
-      pub rest-less : turns t b < turns t a
-      rest-less = passed .less
-
-      pub rest-judged : Judging p t j from b k
-      rest-judged =
-          record {
-            upto = record {
-              standing = passed .standing;
-              few = omega (arith, passed .on, i .upto .few);
-              least = i .upto .least;
-            };
-            same = i .same ∙ rw (reads-on here, ← e);
-          }
-
-    pub refused-judged : {n q : ℕ} → S.Refused n q ≡ seen p t a → JudgedAs j (reads p t from) (length t) (Refused n q)
-    refused-judged e =
-        record { is = sym (i .same ∙ rw (reads-on here, ← e)); small = refuses here (rw (← e) at (view p t a)) }
-
-    pub nothing-judged : S.Nothing ≡ seen p t a → JudgedAs j (reads p t from) (length t) (Rows k)
-    nothing-judged e = record { is = sym (i .same ∙ rw (reads-on here, ← e, add-zero k)); small = i .upto .least }
+  pub nothing-judged : S.Nothing ≡ seen p t a → JudgedAs j (reads p t from) (length t) (Rows k)
+  nothing-judged e = record { is = sym (i .same ∙ rw (reads-on here, ← e, add-zero k)); small = i .upto .least }
 
 ---- The rows -------------------------------------------------------------------------------------------------------------------
 
@@ -93,9 +65,10 @@ pub record Giving (p : Plan) (t : List ℕ) (whole : Filled) (n k : ℕ) (a : At
   pub count : Rows k ≡ counted j (reads p t a)
   pub fill : Filling (p .direction) (p .ctrwidth) whole n (reads p t a) (5 * j) c rows
 
-room : (n j k : ℕ) (o : Out Msg) → Rows k ≡ counted j o → 5 * k ≤ n → Room n (5 * j) o
-room n j k (list ms) e h = let d : k ≡ j + length ms = cc in omega arith
-room n j k (refused a q) e h = let z : _≡_ {A = ℕ} 0 1 = cc in absurd (omega arith)
+-- rows that were counted are those of a list
+pub counted-list : (j k : ℕ) (o : Out Msg) → Rows k ≡ counted j o → (ms : List Msg) × (o ≡ list ms) × (k ≡ j + length ms)
+counted-list j k (list ms) e = (ms, refl, cc)
+counted-list j k (refused a q) e = let z : _≡_ {A = ℕ} 0 1 = cc in absurd (omega arith)
 
 -- where all rows are written, nothing is ahead
 none-left : (j k : ℕ) (o : Out Msg) → Rows k ≡ counted j o → k ≤ j → o ≡ list []
@@ -107,88 +80,48 @@ module _ {p : Plan} {t : List ℕ} where
   pub giving : {a : At} {c : Counter} {j k : ℕ} {rows : List ℕ} → Fillable p t a c j k (length rows)
       → Giving p t (filling (p .direction) (p .ctrwidth) rows (5 * j) c (reads p t a)) (length rows) k a j c rows
   giving {a} {c} {j} {k} {rows} f =
-      record {
-        standing = f .standing;
-        few = f .few;
-        count = f .rows;
-        fill = record { sane = f .sane; long = refl; room = room (length rows) j k (reads p t a) (f .rows) (f .room); same = refl };
-      }
-
-  -- where rows are still to be written, a message or a rest stands
-  ahead : {a : At} {j k : ℕ} → Standing p t a → Rows k ≡ counted j (reads p t a) → j < k → Ahead p t a
-  ahead {a} {j} {k} s e l = at (seen p t a) refl (rw (reads-on s) at e)
-    where
-      at : (v : Seen) → v ≡ seen p t a → Rows k ≡ counted j (then (reads p t) t v) → Ahead p t a
-      at S.Nothing i f = let d : k ≡ j + 0 = cc in absurd (omega arith)
-      at (S.Message m b) i f = crosses i
-      at (S.Rest b) i f = passes i
-      at (S.Refused n q) i f = let z : _≡_ {A = ℕ} 0 1 = cc in absurd (omega arith)
+      let (ms, i, d) = counted-list j k (reads p t a) (f .rows) in
+      let x : Room (length rows) (5 * j) (reads p t a) = rw i (omega (arith, f .room)) in
+      search needs
 
   module _ {whole : Filled} {n k : ℕ} {a : At} {j : ℕ} {c : Counter} {rows : List ℕ} (i : Giving p t whole n k a j c rows) where
+    -- where rows are still to be written, a message or a rest stands
     pub going : j < k → Going p t a
-    going l = record { standing = i .standing; ahead = ahead (i .standing) (i .count) l }
+    going l = record { standing = i .standing; ahead = at (seen p t a) (i .count ∙ ap (counted j) (reads-on (i .standing))) }
+      where
+        at : (v : Seen) → Rows k ≡ counted j (then (reads p t) t v) → Ahead (λ m. Unit {0}) v
+        at S.Nothing e = let d : k ≡ j + 0 = cc in omega arith
+        at (S.Message m b) e = tt
+        at (S.Rest b) e = tt
+        at (S.Refused n q) e = let z : _≡_ {A = ℕ} 0 1 = cc in omega arith
 
     pub all-given : k ≤ j → filled rows c ≡ whole
     all-given l = fill-nothing (i .fill) (none-left j k (reads p t a) (i .count) l)
 
     module _ {m : Found} {b : At} (f : Finds p t a (S.Message m b)) where
-      now-is : reads p t a ≡ before (message t m ∷ []) (reads p t b)
-      now-is = reads-on (i .standing) ∙ rw (← f .is)
-
-      over : Crossed p t a m b
-      over = crosses-view (i .standing) (rw (← f .is) at (view p t a))
-
-      pub given-less : turns t b < turns t a
-      given-less = over .moved .less
+      over : Crossing p t a m b
+      over = crossing (i .standing) (f .is)
 
       pub putting : Putting (p .direction) (p .ctrwidth) t c m (5 * j) (length rows)
       putting =
-          record {
-            message = record {
-              way = i .standing .sized .way;
-              some = over .some;
-              small = i .standing .small;
-              inside = over .inside;
-              counted = record { narrow = i .standing .sized .ctr-narrow; below = f .counts; sane = i .fill .sane };
-            };
-            room = fill-room (i .fill) (message t m) (reads p t b) now-is;
-          }
+          let s = i .standing in
+          let x = over .crossed in
+          let y = fill-room (i .fill) (message t m) (reads p t b) (over .reads-is) in
+          let z = f .counts in
+          search needs
 
       pub message-given : {new : List ℕ} {r : Counter} → Put (p .direction) (p .ctrwidth) t c m (5 * j) rows new r
           → Giving p t whole n k b (j + 1) r new
-      message-given u =
+      message-given {new} {r} u =
           let e : 5 * (j + 1) ≡ 5 * j + 5 = omega arith in
-          record {
-            standing = over .moved .standing;
-            few = i .few;
-            count = i .count ∙ rw now-is (counted-before j (message t m) (reads p t b));
-            fill = rw e (fill-message (i .fill) now-is u);
-          }
+          let x = over .crossed in
+          let y = i .count ∙ ap (counted j) (over .reads-is) ∙ counted-before j (message t m) (reads p t b) in
+          let z : Filling (p .direction) (p .ctrwidth) whole n (reads p t b) (5 * (j + 1)) r new = rw e (fill-message (i .fill) (over .reads-is) u) in
+          search needs
 
-    module _ {b : At} (f : Finds p t a (S.Rest b)) where
-      rest-over : Moved p t a b
-      rest-over = passes-view (i .standing) (rw (← f .is) at (view p t a))
-
-      same : reads p t a ≡ reads p t b
-      same = reads-on (i .standing) ∙ rw (← f .is)
-
-      pub passed-less : turns t b < turns t a
-      passed-less = rest-over .less
-
-      pub rest-given : Giving p t whole n k b j c rows
-      rest-given = record { standing = rest-over .standing; few = i .few; count = i .count ∙ rw same; fill = fill-rest (i .fill) same }
-
-    -- nothing else is found
-    pub no-refusal : {x q : ℕ} → j < k → Finds p t a (S.Refused x q) → ⊥
-    no-refusal l f = at (going l .ahead) (f .is)
-      where
-        at : {x q : ℕ} → Ahead p t a → S.Refused x q ≡ seen p t a → ⊥
-        at (crosses e) g = let z : _≡_ {A = ℕ} 0 1 = cc in omega arith
-        at (passes e) g = let z : _≡_ {A = ℕ} 0 1 = cc in omega arith
-
-    pub no-end : j < k → Finds p t a S.Nothing → ⊥
-    no-end l f = at (going l .ahead) (f .is)
-      where
-        at : Ahead p t a → S.Nothing ≡ seen p t a → ⊥
-        at (crosses e) g = let z : _≡_ {A = ℕ} 0 1 = cc in omega arith
-        at (passes e) g = let z : _≡_ {A = ℕ} 0 1 = cc in omega arith
+    pub rest-given : {b : At} → Finds p t a (S.Rest b) → Giving p t whole n k b j c rows
+    rest-given f =
+        let x = passing (i .standing) (f .is) in
+        let y = i .count ∙ ap (counted j) (x .reads-is) in
+        let z = fill-rest (i .fill) (x .reads-is) in
+        search needs

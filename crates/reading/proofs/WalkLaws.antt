@@ -1,11 +1,11 @@
 -- What is read from a place on is what the step sees there, and then what is read from the place behind it. Behind `reads-on` nothing knows of turns.
 use Prim.Native.Nat.{ℕ, zero, suc, _<_}
 use native.Mathlib.Omega.{arith}
-use mathlib.Core.Path.{_≡_, refl, sym, ap, _∙_}
+use mathlib.Core.Path.{_≡_, refl, ap, _∙_}
 use mathlib.Core.List.{List, [], _∷_}
-use lib.ListN.{length}
 use Rattle.layout.specs.Walk.{Out, before}
 use Rattle.packet.specs.declared.At.{At}
+use Rattle.packet.specs.declared.Found.{Found}
 use Rattle.packet.specs.declared.Seen.{Seen}
 use Rattle.packet.specs.declared.Seen.the-variants as S
 use Rattle.packet.specs.Message.{Msg}
@@ -14,7 +14,16 @@ use Rattle.plan.specs.declared.Plan.{Plan}
 use Rattle.reading.specs.Step.{seen, View}
 use Rattle.reading.specs.Reads.{then, goes, turns, reads, Tells}
 use Rattle.reading.specs.Loops.{Standing}
-use Rattle.reading.proofs.ViewLaws.{view, Moved, crosses, passes}
+use Rattle.reading.proofs.ViewLaws.{view, Moved, Crossed, crosses, passes}
+
+-- a turn: the place behind a message or a rest, and what is read from there on
+pub record Crossing (p : Plan) (t : List ℕ) (a : At) (m : Found) (b : At) : Type 0 where
+  pub crossed : Crossed p t a m b
+  pub reads-is : reads p t a ≡ before (message t m ∷ []) (reads p t b)
+
+pub record Passing (p : Plan) (t : List ℕ) (a b : At) : Type 0 where
+  pub moved : Moved p t a b
+  pub reads-is : reads p t a ≡ reads p t b
 
 module _ {p : Plan} {t : List ℕ} where
   -- two ways to go on that agree behind a place agree after the step there
@@ -39,6 +48,13 @@ module _ {p : Plan} {t : List ℕ} where
   reads-on {a} k =
       then-same k (goes p t (turns t a)) (reads p t)
       (λ b m. enough (turns t a) (suc (turns t b)) b (m .standing) (m .less) (omega arith)) (seen p t a) (view p t a)
+
+  module _ {a : At} (k : Standing p t a) where
+    pub crossing : {m : Found} {b : At} → S.Message m b ≡ seen p t a → Crossing p t a m b
+    crossing e = record { crossed = crosses k (rw (← e) at (view p t a)); reads-is = reads-on k ∙ rw (← e) }
+
+    pub passing : {b : At} → S.Rest b ≡ seen p t a → Passing p t a b
+    passing e = record { moved = passes k (rw (← e) at (view p t a)); reads-is = reads-on k ∙ rw (← e) }
 
   -- A transport's own definition of what is ahead, told by the steps, is what is read
   module _ (ahead : ℕ → Out Msg) (Stands : At → Type 0) (tells : (a : At) → Standing p t a → Stands a → Tells ahead Stands t a (seen p t a)) where

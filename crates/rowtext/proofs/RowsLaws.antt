@@ -1,5 +1,6 @@
 -- Rows that are put one behind another.
 use Prim.Native.Nat.{ℕ, suc, _+_, _*_, _-_, _<_, _≤_}
+use borrow.Author.Needs.{needs}
 use native.Mathlib.Omega.{arith}
 use native.Mathlib.Nat.{add-zero}
 use mathlib.Core.Path.{_≡_, refl, sym, _∙_}
@@ -78,17 +79,16 @@ module _ {old rows : List ℕ} {k : ℕ} {out : List ℕ} {at i : ℕ} (l : List
 
 ---- An answer ------------------------------------------------------------------------------------------------------------------
 
-pub listed : {out rows : List ℕ} {k : ℕ} {d : Counter} → Tellable out rows (R.Rows k d) → {n : ℕ} → n ≡ k → Listed out rows n
-listed t e = record { room = omega (arith, t .within, t .roomy .lines); inside = omega (arith, t .within) }
+-- by its case
+module _ {old rows : List ℕ} {a : Reading} (t : Tellable old rows a) where
+  pub listed : {k n : ℕ} {d : Counter} → a ≡ R.Rows k d → n ≡ k → Listed old rows n
+  listed e f = let q = rw e at t in record { room = omega (arith, q .within, q .roomy .lines); inside = omega (arith, q .within) }
 
--- what is told of an answer by its case
-module _ {old rows new : List ℕ} {r : ℕ} where
-  pub rows-told : {a : Reading} {k : ℕ} {d : Counter} → a ≡ R.Rows k d → Tellable old rows a → {n : ℕ} → n ≡ k
-      → Puts old 0 (lines n rows) (55 * n) new r → Reports old (told a rows) new r
-  rows-told {a} {k} {d} e t {n} f p =
-      let q : Tellable old rows (R.Rows k d) = rw e at t in
-      rw (e, ← f) (tells p (listed q f .room))
+  module _ {new : List ℕ} {r : ℕ} where
+    pub rows-told : {k n : ℕ} {d : Counter} → a ≡ R.Rows k d → n ≡ k → Puts old 0 (lines n rows) (55 * n) new r → Reports old (told a rows) new r
+    rows-told e f p = rw (e, ← f) (tells p (listed e f .room))
 
-  pub refusal-told : {a : Reading} {n p : ℕ} → a ≡ R.Refused n p → Tellable old rows a
-      → Puts old 0 (refusedText n p) 30 new r → Reports old (told a rows) new r
-  refusal-told e t p = rw e (tells p (t .roomy .refusal))
+    pub refusal-told : {n p : ℕ} → a ≡ R.Refused n p → Puts old 0 (refusedText n p) 30 new r → Reports old (told a rows) new r
+    refusal-told e p = rw e (tells p (t .roomy .refusal))
+
+pub ruleset listings = (needs, listing, rowed, listing-next, listing-done, listed, rows-told, refusal-told)

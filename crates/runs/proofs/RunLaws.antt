@@ -1,5 +1,6 @@
 -- A run is passed eight by eight, and what each of its bytes keeps the whole run keeps.
 use Prim.Native.Nat.{ℕ, zero, suc, _+_, _-_, _<_, _≤_}
+use borrow.Author.Needs.{needs}
 use native.Mathlib.Omega.{arith}
 use native.Mathlib.Nat.{add-assoc}
 use mathlib.Core.Path.{_≡_, refl, sym, ap, _∙_, subst}
@@ -11,7 +12,7 @@ use Rattle.layout.proofs.PartLaws.{drop-next}
 use Rattle.runs.specs.Runs.{orSome, some, Run}
 
 -- bytes as they are read one by one
-pub four-is : (t : List ℕ) (k : ℕ) → k + 4 ≤ length t
+four-is : (t : List ℕ) (k : ℕ) → k + 4 ≤ length t
     → getD t k 0 ∷ getD t (k + 1) 0 ∷ getD t (k + 2) 0 ∷ getD t (k + 3) 0 ∷ [] ≡ take 4 (drop k t)
 four-is t k h =
     sym (rw (
@@ -52,7 +53,7 @@ module _ {f : ℕ → Bool} {t : List ℕ} where
   run-first {q} h = record { from = omega arith; to = h; is = rw (slice-empty q t) }
 
   -- by m bytes e that are tested as one
-  pub run-on : (m : ℕ) {q k : ℕ} {e : List ℕ} → Run f t q k → k + m ≤ length t → e ≡ take m (drop k t) → some f e ≡ false
+  run-on : (m : ℕ) {q k : ℕ} {e : List ℕ} → Run f t q k → k + m ≤ length t → e ≡ take m (drop k t) → some f e ≡ false
       → Run f t q (k + m)
   run-on m {q} {k} g h x y =
       let l : q ≤ length (take k t) = omega (arith, length-take-le k t (g .to), g .from) in
@@ -62,6 +63,14 @@ module _ {f : ℕ → Bool} {t : List ℕ} where
         to = h;
         is = rw (take-add k m t, drop-append-le q (take k t) (take m (drop k t)) l) (some-append f false (slice q k t) (take m (drop k t)) (g .is) o);
       }
+
+  module _ {q k : ℕ} (g : Run f t q k) where
+    pub run-eight : {e : List ℕ} {b : Bool} → 8 ≤ length t - k → e ≡ take 8 (drop k t) → b ≡ some f e → b ≡ false → Run f t q (k + 8)
+    run-eight h x y z = run-on 8 g (omega (arith, g .to)) x (sym y ∙ z)
+
+    pub run-four : 4 ≤ length t - k → some f (getD t k 0 ∷ getD t (k + 1) 0 ∷ getD t (k + 2) 0 ∷ getD t (k + 3) 0 ∷ []) ≡ false
+        → Run f t q (k + 4)
+    run-four h y = let l : k + 4 ≤ length t = omega (arith, g .to) in run-on 4 g l (four-is t k l) y
 
   pub run-keeps : {q k : ℕ} (P : ℕ → Type 0) → ((i : ℕ) → i < length t → f (getD t i 0) ≡ false → P i → P (suc i))
       → Run f t q k → P q → P k
@@ -73,3 +82,5 @@ module _ {f : ℕ → Bool} {t : List ℕ} where
           let h : i < length t = omega (arith, g .to) in
           let (a, b) = some-cons f (getD t i 0) (slice (suc i) k t) (rw (slice-cons i k t 0 (omega arith) (g .to)) at s) in
           go n (suc i) (omega arith) b (step i h a x)
+
+pub ruleset runs = (needs, eight-is, run-first, run-eight, run-four)

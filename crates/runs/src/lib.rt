@@ -42,26 +42,18 @@ fn some_equal(e: Eight, b: u8) -> bool
         | (e.7 == b)
 }
 
-fn over_eights(t: &[u8], q: usize, n: u8) -> usize
+// Passes eights that have no byte below n, and then four such bytes.
+pub fn over(t: &[u8], q: usize, n: u8) -> usize
     requires { do ⌜ q ≤ (← ⟦t.len()⟧) ⌝ }
     ensures { λ r. ⌜ Run (under n) (now (t .entry)) q r ⌝ }
 {
     let mut k = q;
     while t.len() - k >= 8 {
         if some_under(eight_at(t, k), n) {
-            return k;
+            break;
         }
         k += 8;
     }
-    k
-}
-
-// Passes eights that have no byte below n, and then four such bytes.
-pub fn over(t: &[u8], q: usize, n: u8) -> usize
-    requires { do ⌜ q ≤ (← ⟦t.len()⟧) ⌝ }
-    ensures { λ r. ⌜ Run (under n) (now (t .entry)) q r ⌝ }
-{
-    let k = over_eights(t, q, n);
     if t.len() - k < 4 {
         return k;
     }

@@ -1,5 +1,6 @@
 -- X by its word, and the text by what is described.
 use Prim.Native.Nat.{ℕ}
+use borrow.Author.Needs.{needs}
 use native.Mathlib.Omega.{arith}
 use mathlib.Core.Path.{_≡_, _∙_}
 use mathlib.Core.List.{List}
@@ -48,3 +49,5 @@ module _ (t : List ℕ) {old new : List ℕ} {r : ℕ} {m : Meant} where
   pub unasked-told : m ≡ Nothing → Inside old 0 149 → Puts old 0 (refusedText 1 0) 30 new r → Reports old (programText t m) new r
   unfolding programText
   unasked-told e i p = rw e (tells p (omega (arith, i .room)))
+
+pub ruleset tellings = (needs, one-argument, no-argument, lines-told, refusal-told, asked-told, unasked-told)

@@ -1,5 +1,6 @@
 -- What io spells is the decimal text of the definitions; text that is put behind text.
 use Prim.Native.Nat.{ℕ, zero, suc, _+_, _*_, _-_, _/_, _%_, _^_, _<_, _≤_}
+use borrow.Author.Needs.{needs}
 use native.Mathlib.Omega.{arith}
 use native.Mathlib.Nat.{pow-suc, one-le-pow}
 use native.Mathlib.Numerals.{unary-clauses}
@@ -98,3 +99,5 @@ puts-then {old} {at} {v} {w = w} p q =
       most = omega (arith, p .most, q .most);
       long = q .long ∙ p .long;
     }
+
+pub ruleset spellings = (needs, spelt, word-put, bytes-put)

@@ -17,7 +17,7 @@ pub fn put_bytes(out: &mut [u8], at: usize, bytes: &[u8]) -> usize
     requires { ⌜ Short (now out) at (length (now bytes)) 0 65536 ⌝ }
     ensures { λ r. ⌜ Puts (now (out .entry)) at (now (bytes .entry)) (length (now (bytes .entry))) (now (out .exit)) r ⌝ }
 {
-    put_packet(out, at, bytes);
+    put_packet(true, out, at, bytes);
     at + bytes.len()
 }
 
@@ -28,7 +28,7 @@ pub fn put_word(out: &mut [u8], at: usize, n: u32, behind: u8) -> usize
 {
     let mut text = [0u8; 20];
     let k = spell(n, &mut text);
-    put_packet(out, at, &text[0..k]);
+    put_packet(true, out, at, &text[0..k]);
     out[at + k] = behind;
     at + k + 1
 }

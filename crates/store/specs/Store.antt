@@ -1,8 +1,7 @@
 -- What putting bytes into a lent output asks and tells.
 use Prim.Native.Nat.{ℕ, zero, suc, _+_, _≤_}
 use mathlib.Core.List.{List, [], _∷_}
-use lib.ListN.{length, take, drop, replicate}
-use lib.Seq.{sets}
+use lib.ListN.{length, take, drop}
 
 -- a run of n bytes has room
 pub record Inside (out : List ℕ) (at n : ℕ) : Type 0 where

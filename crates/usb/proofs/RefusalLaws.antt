@@ -1,43 +1,38 @@
 -- A transfer is refused with a number at a place exactly where document 01's table says so, and accepted exactly where nothing is refused.
-use Prim.Native.Nat.{ℕ, _*_, _<_, _≤_}
+use Prim.Native.Nat.{ℕ, _<_, _≤_}
 use native.Mathlib.Omega.{arith}
 use mathlib.Core.Path.{_≡_}
 use mathlib.Core.Bool.{true}
 use mathlib.Core.Logic.{_↔_}
 use mathlib.Core.List.{List}
-use lib.ListN.{length, take, drop}
+use lib.ListN.{length}
 use Rattle.layout.specs.Walk.{Out.refused}
 use Rattle.packet.specs.declared.Counter.{Counter}
 use Rattle.packet.specs.declared.Reading.the-variants as R
-use Rattle.packet.specs.Message.{Msg}
 use Rattle.packet.specs.Counter.{valid}
 use Rattle.packet.specs.Row.{table, behind}
-use Rattle.packet.specs.Answer.{readNumber, readState}
 use Rattle.packet.proofs.CounterLaws.{exceeds-known, valid-without, not-valid}
 use Rattle.packet.proofs.RowLaws.{length-table, state-unread, state-unaltered}
-use Rattle.packet.proofs.ReaderLaws.{Alike, Unread, refused-anyway, read-keeps, exactly-unread, exactly-accepted, rows-front, same-rows, same-state}
+use Rattle.packet.proofs.ReaderLaws.{Alike, Unread, refused-anyway, Rules, rulesOf, Reader, reader, alike}
 use Rattle.usb.specs.declared.Setting.{Setting}
-use Rattle.usb.specs.Setting.{W, sound}
+use Rattle.usb.specs.Setting.{W}
 use Rattle.usb.specs.Layout.{Transfer}
 use Rattle.usb.specs.Reading.{judged, readOf}
 use Rattle.usb.specs.Refusal.{Broken, Fine, ReadRefusal, ReadAccept}
-use Rattle.usb.proofs.ReadLaws.{Outcome, Judgement, judgement, judged-is, read-sound, read-complete}
+use Rattle.usb.proofs.ReadLaws.{Outcome, Judgement, judgement, judged-is, read-sound, read-complete, parts-show}
 
-abbrev rowsOf : Setting → Counter → List Msg → List ℕ
-rowsOf s c = table (s .direction) (W s) c
-
--- a refusal has one of document 01's numbers
-rule-number : {s : Setting} {q n : ℕ} {bs : List ℕ} → Broken s q bs n → (0 < n) × (n ≤ 8)
+-- a refusal has one of document 01's numbers, which for a broken rule is not 1
+pub rule-number : {s : Setting} {q n : ℕ} {bs : List ℕ} → Broken s q bs n → (1 < n) × (n ≤ 8)
 rule-number (Broken.over n h x) = omega arith
 rule-number (Broken.past n h x f) = omega arith
 rule-number (Broken.short p z l f) = omega arith
 rule-number (Broken.zeroed p z l e) = omega arith
 
-pub read-number : {s : Setting} {t : List ℕ} {c : Counter} {k n p : ℕ} → ReadRefusal s t c k n p → (0 < n) × (n ≤ 8)
+read-number : {s : Setting} {t : List ℕ} {c : Counter} {k n p : ℕ} → ReadRefusal s t c k n p → (0 < n) × (n ≤ 8)
 read-number (ReadRefusal.setting e) = omega arith
 read-number (ReadRefusal.counter k x) = omega arith
 read-number (ReadRefusal.long f l) = omega arith
-read-number (ReadRefusal.rule f l ms x b) = rule-number b
+read-number (ReadRefusal.rule f l ms x b) = omega (arith, rule-number b)
 read-number (ReadRefusal.room f ms x l) = omega arith
 
 module _ (s : Setting) (t : List ℕ) (c : Counter) (rows : List ℕ) where
@@ -60,41 +55,25 @@ module _ (s : Setting) (t : List ℕ) (c : Counter) (rows : List ℕ) where
   to-table (ReadRefusal.rule f l ms x b) = Unread.judged (f .counter) (judged-is s t (Judgement.walks (f .setting) l (Outcome.broken x b)))
   to-table (ReadRefusal.room f ms x l) = Unread.crowded ms (f .counter) (read-complete s t ms x) l
 
-  pub refused-exactly : (n p : ℕ) → (readOf s t c rows .answer ≡ R.Refused n p) ↔ ReadRefusal s t c (length rows) n p
-  unfolding readOf
-  refused-exactly n p = exactly-unread (rowsOf s c) (behind (W s) c) rows (valid (W s) c) (judged s t) by-table to-table
+  -- what document 01 says of a read
+  abbrev pub rules : Rules t rows
+  rules = rulesOf (ReadRefusal s t c (length rows)) (Fine s c) (λ ms. Transfer s ms t) (table (s .direction) (W s) c) (behind (W s) c)
 
-  -- a refusal leaves the table and the state
-  pub refused-keeps : 0 < readNumber (readOf s t c rows .answer)
-      → (readOf s t c rows .lent ≡ rows) × (readState c (readOf s t c rows .answer) ≡ c)
+  pub read-exact : Reader rules (readOf s t c rows)
   unfolding readOf
-  refused-keeps = read-keeps (rowsOf s c) (behind (W s) c) rows (valid (W s) c) (judged s t) c
+  read-exact =
+      reader rules (valid (W s) c) (judged s t) (λ n p. read-number) (λ n p. by-table) (λ n p. to-table) (read-sound s t) (read-complete s t)
+      (λ f. f .counter) (λ ms v x. record { setting = x .setting; counter = v }) (length-table (s .direction) (W s) c) (parts-show s t)
 
   pub accepted-exactly : (k : ℕ) (d : Counter) → (readOf s t c rows .answer ≡ R.Rows k d) ↔ ReadAccept s t c (length rows) k d
-  unfolding readOf
-  accepted-exactly =
-      exactly-accepted (rowsOf s c) (behind (W s) c) rows (sound s) (valid (W s) c) (judged s t) (λ ms. Transfer s ms t)
-      (read-sound s t) (read-complete s t) (λ ms x. x .setting)
-
-  -- the rows of what is accepted stand at the front of the table, and those behind are unchanged
-  pub accepted-rows : (ms : List Msg) → Fine s c → Transfer s ms t → 5 * length ms ≤ length rows
-      → (take (5 * length ms) (readOf s t c rows .lent) ≡ table (s .direction) (W s) c ms)
-      × (drop (5 * length ms) (readOf s t c rows .lent) ≡ drop (5 * length ms) rows)
-  unfolding readOf
-  accepted-rows ms =
-      rows-front (rowsOf s c) (behind (W s) c) rows (sound s) (valid (W s) c) (judged s t) (λ ms. Transfer s ms t)
-      (read-sound s t) (read-complete s t) (λ ms x. x .setting) ms (length-table (s .direction) (W s) c ms)
+  accepted-exactly = read-exact .exact .accepted
 
 ---- Without CTR ----------------------------------------------------------------------------------------------------------------
 
 -- the state is neither read nor altered
-module _ (s : Setting) (t : List ℕ) (none : W s ≡ 0) (rows : List ℕ) where
-  pub counter-unread : (b c : Counter) → Alike (readOf s t b rows) (readOf s t c rows)
-  unfolding readOf
-  counter-unread b c =
-      rw (none, valid-without b, valid-without c)
-      (same-rows (table (s .direction) 0 b) (behind 0 b) rows true (judged s t) (table (s .direction) 0 c) (behind 0 c) (state-unread (s .direction) b c))
-
-  pub counter-unaltered : (c : Counter) → readState c (readOf s t c rows .answer) ≡ c
-  unfolding readOf
-  counter-unaltered c = rw none (same-state (table (s .direction) 0 c) (behind 0 c) rows (valid 0 c) (judged s t) c (state-unaltered c))
+pub counter-unread : (s : Setting) (t : List ℕ) → W s ≡ 0 → (rows : List ℕ) (b c : Counter) → Alike (readOf s t b rows) (readOf s t c rows) b
+unfolding readOf
+counter-unread s t none rows b c =
+    rw (none, valid-without b, valid-without c)
+    (alike (table (s .direction) 0 b) (behind 0 b) rows true (judged s t) (table (s .direction) 0 c) (behind 0 c) b
+    (state-unread (s .direction) b c) (state-unaltered b))

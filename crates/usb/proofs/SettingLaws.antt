@@ -38,23 +38,17 @@ aligned (suc a) e = omega arith
 pub good : (s : Setting) → sound s ≡ true → Good s
 unfolding sound right
 good s e =
-    let a : ltb (s .header) 6 ≡ true = search (and-left, and-right) in
-    let b : eqb (s .align) 1 || eqb (s .align) 2 || eqb (s .align) 4 || eqb (s .align) 8 ≡ true = search (and-left, and-right) in
-    let c : leb 8 (s .datapacket) ≡ true = search (and-left, and-right) in
-    let d : ltb (s .longest) (256 ^ width LEN (fields s)) ≡ true = search (and-left, and-right) in
-    let r : right (fields s) ≡ true = all-right s (ltb-true (s .header) 6 a) in
-    let u : ltb 0 (width LEN (fields s)) ≡ true = search (and-left, and-right) in
-    let v : eqb (place LEN (fields s)) 0 ≡ true = search (and-left, and-right) in
-    let w : leb (H s) 4 ≡ true = search (and-left, and-right) in
-    let l : 0 < width LEN (fields s) = ltb-true 0 (width LEN (fields s)) u in
+    let fs = fields s in
+    let r : right fs ≡ true = all-right s (ltb-true (s .header) 6 (search (and-left, and-right))) in
+    let l : 0 < width LEN fs = ltb-true 0 (width LEN fs) (search (and-left, and-right)) in
     record {
-      align = aligned (s .align) b;
-      cut = leb-true 8 (s .datapacket) c;
-      most = ltb-true (s .longest) (256 ^ width LEN (fields s)) d;
+      align = aligned (s .align) (search (and-left, and-right));
+      cut = leb-true 8 (s .datapacket) (search (and-left, and-right));
+      most = ltb-true (s .longest) (256 ^ width LEN fs) (search (and-left, and-right));
       lens = l;
-      first = eqb-true (place LEN (fields s)) 0 v;
-      head = omega (arith, inside LEN (fields s));
-      small = leb-true (H s) 4 w;
+      first = eqb-true (place LEN fs) 0 (search (and-left, and-right));
+      head = omega (arith, inside LEN fs);
+      small = leb-true (H s) 4 (search (and-left, and-right));
     }
 
 -- in no header has LEN more than two bytes

@@ -1,36 +1,29 @@
--- What the writer writes is laid out as the packets that were given and reads back as the same list; and each refusal,
--- with its number and place, is given exactly when document 01's table says so.
-use Prim.Native.Nat.{ℕ, _*_, _<_, _≤_}
+-- What the writer writes is laid out as the packets that were given; and each refusal, with its number and place, is given exactly when document 01's
+-- table says so.
+use Prim.Native.Nat.{ℕ, _<_, _≤_}
 use native.Mathlib.Omega.{arith}
-use mathlib.Core.Path.{_≡_, refl, sym, _∙_}
+use mathlib.Core.Path.{_≡_, refl}
 use mathlib.Core.Bool.{Bool, true, false, _&&_, _||_}
-use mathlib.Core.Logic.{_↔_}
-use mathlib.Core.List.{List, map}
+use mathlib.Core.List.{List}
 use lib.ListN.{length, take, drop}
 use lib.Dec.{ltb, eqb}
 use borrow.Author.Tests.{ltb-true, ltb-false, eqb-true, eqb-false}
 use Rattle.layout.proofs.TestLaws.{Tells, Tells.passes, Tells.fails, why-passed, why-failed, passed, failed}
-use Rattle.packet.specs.declared.Counter.{Counter}
-use Rattle.packet.specs.declared.Reading.the-variants as R
 use Rattle.packet.specs.declared.Writing.the-variants as W
-use Rattle.packet.specs.Message.{Msg}
-use Rattle.packet.specs.Counter.{valid, holds, later}
-use Rattle.packet.specs.Row.{table, behind}
+use Rattle.packet.specs.Counter.{holds, later}
 use Rattle.packet.specs.Packets.{packets, mismatched, first, Matched}
-use Rattle.packet.specs.Answer.{writeNumber, writeCounter}
+use Rattle.packet.proofs.AnswerLaws.{Exact}
 use Rattle.packet.proofs.CounterLaws.{exceeds, not-held}
-use Rattle.packet.proofs.WriterLaws.{Unwritten, Written, why-written, wrote-front, kept-past, write-keeps, exactly-unwritten, exactly-written}
-use Rattle.packet.proofs.PacketsLaws.{packets-lengths, length-packets, mismatch-tells, not-both, each, each-length}
+use Rattle.packet.proofs.WriterLaws.{Call, Unwritten, Written, why-written, wrote-front, writer}
+use Rattle.packet.proofs.PacketsLaws.{packets-lengths, mismatch-tells, not-both, each, each-length}
 use Rattle.packet.proofs.PacketsLaws.{fit-before, unfit-there, index-is, index-none}
 use Rattle.usb.specs.declared.Setting.{Setting}
 use Rattle.usb.specs.Setting.{W, whole, sound}
 use Rattle.usb.specs.Layout.{Transfer}
-use Rattle.usb.specs.Reading.{readOf}
 use Rattle.usb.specs.Writing.{write, placed, misfit, composed, writeOf}
-use Rattle.usb.specs.Refusal.{Fine, ReadAccept, Fit, Unfit, WriteRefusal, WriteAccept}
+use Rattle.usb.specs.Refusal.{Fit, Unfit, WriteRefusal, WriteAccept}
 use Rattle.usb.proofs.SettingLaws.{good}
-use Rattle.usb.proofs.RefusalLaws.{accepted-exactly, accepted-rows}
-use Rattle.usb.proofs.WrittenLaws.{laid-out, placed-packets, placed-length}
+use Rattle.usb.proofs.WrittenLaws.{laid-out}
 
 ---- Lengths that fit -----------------------------------------------------------------------------------------------------------
 
@@ -57,80 +50,50 @@ module _ (s : Setting) (n : ℕ) where
 
 ---- What was written -----------------------------------------------------------------------------------------------------------
 
--- a refusal has one of document 01's numbers
-pub write-number : {s : Setting} {bs ns : List ℕ} {c fill : ℕ} {full : Bool} {k n p : ℕ}
-    → WriteRefusal s bs ns c fill full k n p → (0 < n) × (n ≤ 8)
-write-number (WriteRefusal.setting e) = omega arith
-write-number (WriteRefusal.counter x) = omega arith
-write-number (WriteRefusal.mismatch r m) = omega arith
-write-number (WriteRefusal.unfit r m l f u) = omega arith
-write-number (WriteRefusal.room r m f h) = omega arith
-
 module _ (s : Setting) (bs ns : List ℕ) (c fill : ℕ) (full : Bool) (out : List ℕ) where
-  abbrev bytes : List ℕ
-  bytes = write s fill full 0 c (packets ns bs)
-
   abbrev index : ℕ
   index = first (misfit s) ns
 
-  abbrev after : ℕ
-  after = later (W s) (length ns) c
-
-  accepted : {k d : ℕ} → writeOf s bs ns c fill full out .answer ≡ W.Bytes k d
-      → Written (sound s) (holds (W s) c) (mismatched ns bs) index (length ns) bytes (length out) after k d
-  unfolding writeOf composed
-  accepted e = why-written (sound s) (holds (W s) c) (mismatched ns bs) index (length ns) bytes out after e
+  -- the call as every writer weighs it
+  abbrev call : Call
+  call =
+      record {
+        sound = sound s;
+        held = holds (W s) c;
+        mismatch = mismatched ns bs;
+        index = index;
+        count = length ns;
+        bytes = write s fill full 0 c (packets ns bs);
+        next = later (W s) (length ns) c;
+      }
 
   -- what stands at the front of the output is what was composed, and the rest of the output is as it was
   pub written-front : (k d : ℕ) → writeOf s bs ns c fill full out .answer ≡ W.Bytes k d
-      → take k (writeOf s bs ns c fill full out .lent) ≡ write s fill full 0 c (packets ns bs)
+      → (take k (writeOf s bs ns c fill full out .lent) ≡ write s fill full 0 c (packets ns bs))
+      × (drop k (writeOf s bs ns c fill full out .lent) ≡ drop k out)
   unfolding writeOf composed
-  written-front k d e = wrote-front (sound s) (holds (W s) c) (mismatched ns bs) index (length ns) bytes out after (accepted e)
-
-  pub written-past : (k d : ℕ) → writeOf s bs ns c fill full out .answer ≡ W.Bytes k d
-      → drop k (writeOf s bs ns c fill full out .lent) ≡ drop k out
-  unfolding writeOf composed
-  written-past k d e = kept-past (sound s) (holds (W s) c) (mismatched ns bs) index (length ns) bytes out after (accepted e)
+  written-front k d e = wrote-front call out e
 
   -- what the writer makes is laid out as its packets, with their counters
   pub written-laid : (k d : ℕ) → writeOf s bs ns c fill full out .answer ≡ W.Bytes k d
       → Transfer s (placed s 0 c (packets ns bs)) (take k (writeOf s bs ns c fill full out .lent))
+  unfolding writeOf composed
   written-laid k d e =
-      let w = accepted e in
+      let w = why-written call out e in
       let m : Matched ns bs = why-failed (mismatch-tells ns bs) (w .matched) in
       let f = each (Fit s) 0 ns (fit-before (misfit s) (misfit-tells s) 0 ns (length ns) (w .fit)) in
       let fits = each-length (Fit s) (packets ns bs) (rw (packets-lengths ns bs (m .same)) f) in
       let g = good s (w .ready .setting) in
-      rw (written-front k d e)
+      rw (wrote-front call out e .0)
       (record {
         setting = w .ready .setting;
         long = w .most;
-        laid = laid-out s g fill full 0 c (length bytes) (packets ns bs) fits (w .ready .counter) (omega arith);
+        laid = laid-out s g fill full 0 c (length (call .bytes)) (packets ns bs) fits (w .ready .counter) (omega arith);
       })
-
-  -- and reads back as the same list, with every state that is not refused and every table that has room
-  pub round-trip : (k d : ℕ) → writeOf s bs ns c fill full out .answer ≡ W.Bytes k d
-      → (e : Counter) (rows : List ℕ) → valid (W s) e ≡ true → 5 * length ns ≤ length rows
-      → (readOf s (take k (writeOf s bs ns c fill full out .lent)) e rows .answer ≡ R.Rows (length ns) (behind (W s) e (placed s 0 c (packets ns bs))))
-      × (take (5 * length ns) (readOf s (take k (writeOf s bs ns c fill full out .lent)) e rows .lent)
-      ≡ table (s .direction) (W s) e (placed s 0 c (packets ns bs)))
-      × (map (λ m. m .packet) (placed s 0 c (packets ns bs)) ≡ packets ns bs)
-  round-trip k d w e rows v l =
-      let t : List ℕ = take k (writeOf s bs ns c fill full out .lent) in
-      let ms : List Msg = placed s 0 c (packets ns bs) in
-      let x : Transfer s ms t = written-laid k d w in
-      let g = good s (x .setting) in
-      let p : map (λ m. m .packet) ms ≡ packets ns bs = placed-packets s g fill 0 c (packets ns bs) in
-      let n : length ms ≡ length ns = placed-length s g fill 0 c (packets ns bs) ∙ length-packets ns bs in
-      let f : Fine s e = record { setting = x .setting; counter = v } in
-      let a : ReadAccept s t e (length rows) (length ns) (behind (W s) e ms) =
-      record { fine = f; messages = ms; whole = x; room = omega arith; count = sym n; left = refl } in
-      (accepted-exactly s t e rows (length ns) (behind (W s) e ms) .1 a, rw n at (accepted-rows s t e rows ms f x (omega arith) .0), p)
 
   ---- Refused exactly when -------------------------------------------------------------------------------------------------------
 
-  by-table : {n p : ℕ} → Unwritten (sound s) (holds (W s) c) (mismatched ns bs) index (length ns) bytes (length out) n p
-      → WriteRefusal s bs ns c fill full (length out) n p
+  by-table : {n p : ℕ} → Unwritten call (length out) n p → WriteRefusal s bs ns c fill full (length out) n p
   by-table (Unwritten.unsound e) = WriteRefusal.setting e
   by-table (Unwritten.over e) = WriteRefusal.counter (exceeds (W s) c e)
   by-table (Unwritten.mismatched r m) = WriteRefusal.mismatch r (why-passed (mismatch-tells ns bs) m)
@@ -140,8 +103,7 @@ module _ (s : Setting) (bs ns : List ℕ) (c fill : ℕ) (full : Bool) (out : Li
   by-table (Unwritten.crowded r m l h) =
       WriteRefusal.room r (why-failed (mismatch-tells ns bs) m) (fit-before (misfit s) (misfit-tells s) 0 ns (length ns) l) h
 
-  to-table : {n p : ℕ} → WriteRefusal s bs ns c fill full (length out) n p
-      → Unwritten (sound s) (holds (W s) c) (mismatched ns bs) index (length ns) bytes (length out) n p
+  to-table : {n p : ℕ} → WriteRefusal s bs ns c fill full (length out) n p → Unwritten call (length out) n p
   to-table (WriteRefusal.setting e) = Unwritten.unsound e
   to-table (WriteRefusal.counter x) = Unwritten.over (not-held (W s) c x)
   to-table (WriteRefusal.mismatch r m) = Unwritten.mismatched r (passed (not-both ns bs) (mismatch-tells ns bs) m)
@@ -152,25 +114,13 @@ module _ (s : Setting) (bs ns : List ℕ) (c fill : ℕ) (full : Bool) (out : Li
       let x : index ≡ length ns = index-none (misfit s) (misfit-tells s) 0 ns (not-both-fit s) f in
       Unwritten.crowded r (failed (not-both ns bs) (mismatch-tells ns bs) m) (omega arith) h
 
-  pub write-refused-exactly : (n p : ℕ)
-      → (writeOf s bs ns c fill full out .answer ≡ W.Refused n p) ↔ WriteRefusal s bs ns c fill full (length out) n p
+  pub write-exact : Exact W.Refused W.Bytes (WriteRefusal s bs ns c fill full (length out)) (WriteAccept s bs ns c fill full (length out)) out
+      (writeOf s bs ns c fill full out)
   unfolding writeOf composed
-  write-refused-exactly n p =
-      exactly-unwritten (sound s) (holds (W s) c) (mismatched ns bs) index (length ns) bytes out after by-table to-table
-
-  -- a refusal leaves the output and the counter
-  pub write-refused-keeps : 0 < writeNumber (writeOf s bs ns c fill full out .answer)
-      → (writeOf s bs ns c fill full out .lent ≡ out) × (writeCounter c (writeOf s bs ns c fill full out .answer) ≡ c)
-  unfolding writeOf composed
-  write-refused-keeps = write-keeps (sound s) (holds (W s) c) (mismatched ns bs) index (length ns) bytes out after c
-
-  pub written-exactly : (k d : ℕ) → (writeOf s bs ns c fill full out .answer ≡ W.Bytes k d) ↔ WriteAccept s bs ns c fill full (length out) k d
-  unfolding writeOf composed
-  written-exactly k d = exactly-written (sound s) (holds (W s) c) (mismatched ns bs) index (length ns) bytes out after from to
+  write-exact = writer call out (λ n p. by-table) (λ n p. to-table) takes answers
     where
-      from : Written (sound s) (holds (W s) c) (mismatched ns bs) index (length ns) bytes (length out) after k d
-          → WriteAccept s bs ns c fill full (length out) k d
-      from w =
+      takes : (k d : ℕ) → Written call (length out) k d → WriteAccept s bs ns c fill full (length out) k d
+      takes k d w =
           record {
             willing = w .ready;
             matched = why-failed (mismatch-tells ns bs) (w .matched);
@@ -181,9 +131,8 @@ module _ (s : Setting) (bs ns : List ℕ) (c fill : ℕ) (full : Bool) (out : Li
             next = w .counter;
           }
 
-      to : WriteAccept s bs ns c fill full (length out) k d
-          → Written (sound s) (holds (W s) c) (mismatched ns bs) index (length ns) bytes (length out) after k d
-      to w =
+      answers : (k d : ℕ) → WriteAccept s bs ns c fill full (length out) k d → Written call (length out) k d
+      answers k d w =
           let x : index ≡ length ns = index-none (misfit s) (misfit-tells s) 0 ns (not-both-fit s) (w .fit) in
           record {
             ready = w .willing;

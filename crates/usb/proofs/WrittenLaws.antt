@@ -199,11 +199,6 @@ module _ (s : Setting) (g : Good s) (fill : ℕ) where
   placed-packets q c [] = refl
   placed-packets q c (b ∷ bs) = ap (λ l. b ∷ l) (placed-packets (q + skipped s q (length b) + whole s (length b)) (next (W s) c) bs)
 
-  pub placed-length : (q c : ℕ) (bs : List (List ℕ)) → length (placed s q c bs) ≡ length bs
-  unfolding placed
-  placed-length q c [] = refl
-  placed-length q c (b ∷ bs) = ap suc (placed-length (q + skipped s q (length b) + whole s (length b)) (next (W s) c) bs)
-
   -- with their counters, one after another from the first
   pub placed-counter : (d : Msg) (q c : ℕ) (bs : List (List ℕ)) (i : ℕ) → 0 < W s → i < length bs
       → getD (placed s q c bs) i d .ctr ≡ later (W s) i c

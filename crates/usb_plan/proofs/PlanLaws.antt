@@ -1,58 +1,26 @@
--- A sound setting's plan: the numbers of its header, by one test over all headers that is computed.
-use Prim.Native.Nat.{ℕ, zero, suc, _+_, _%_, _^_, _<_, _≤_}
+-- A sound setting's plan: the numbers of its header, by tests over all headers that are computed.
+use Prim.Native.Nat.{_+_, _%_, _^_}
 use native.Mathlib.Omega.{arith}
 use mathlib.Core.Path.{_≡_, refl}
-use mathlib.Core.Bool.{true, false, _||_}
+use mathlib.Core.Bool.{true, false}
 use mathlib.Core.List.{[]}
-use lib.Dec.{leb, eqb}
-use borrow.Author.Tests.{leb-true, ltb-true, eqb-true, ne-eqb}
+use lib.Dec.{leb}
+use borrow.Author.Tests.{leb-true, ltb-true, eqb-true}
 use Rattle.layout.specs.declared.Shape.{Shape}
 use Rattle.layout.specs.Field.{shape, size, place, width, Name.LEN, Name.CTR}
 use Rattle.layout.specs.Multiple.{alignment}
-use Rattle.layout.proofs.FieldLaws.{inside}
 use Rattle.layout.proofs.MultipleLaws.{alignment-is}
-use Rattle.layout.proofs.TableLaws.{all-given}
 use Rattle.layout.proofs.TestLaws.{and-left, and-right}
 use Rattle.usb.specs.declared.Setting.{Setting}
-use Rattle.usb.specs.Setting.{headers, header, fields, sound}
+use Rattle.usb.specs.Setting.{headers, fields, sound}
 use Rattle.usb.proofs.SettingLaws.{good, len-narrow}
 use Rattle.plan.specs.declared.Plan.{Plan}
 use Rattle.plan.specs.declared.Planned.the-variants as P
-use Rattle.plan.proofs.PlanLaws.{was-sound, was-unsound}
+use Rattle.plan.proofs.PlanLaws.{was-sound, was-unsound, at-most, where-some}
 use Rattle.usb_plan.specs.Plan.{setting, planOf, plannedOf, LenOf, Ready}
 
--- in no header has CTR more than two bytes
-ctr-narrow : (n : ℕ) → width CTR (header n) ≤ 2
-unfolding headers
-ctr-narrow n = leb-true _ _ (all-given (λ fs. leb (width CTR fs) 2) [] headers n refl refl)
-
--- in every header CTR stands behind LEN and has as many bytes, and there is no room for a third field of that width
-record Paired (n : ℕ) : Type 0 where
-  next : 0 < width CTR (header n) → place CTR (header n) ≡ width LEN (header n)
-  odd : width CTR (header n) % 2 + width LEN (header n) ≤ 2
-  most : width CTR (header n) ≤ width LEN (header n)
-  twice : size (header n) ≤ width LEN (header n) + width LEN (header n)
-
-paired : (n : ℕ) → Paired n
-unfolding headers
-paired n =
-    let t = all-given (λ fs. eqb (width CTR fs) 0 || eqb (place CTR fs) (width LEN fs)) [] headers n refl refl in
-    record {
-      next = λ h. eqb-true _ _ (rw (ne-eqb (width CTR (header n)) 0 (omega arith)) at t);
-      odd = leb-true _ _ (all-given (λ fs. leb (width CTR fs % 2 + width LEN fs) 2) [] headers n refl refl);
-      most = leb-true _ _ (all-given (λ fs. leb (width CTR fs) (width LEN fs)) [] headers n refl refl);
-      twice = leb-true _ _ (all-given (λ fs. leb (size fs) (width LEN fs + width LEN fs)) [] headers n refl refl);
-    }
-
--- what a field of at most two bytes holds
-held : (w n : ℕ) → w ≤ 2 → n < 256 ^ w → n < 65536
-held zero n l h = omega arith
-held (suc zero) n l h = omega arith
-held (suc (suc zero)) n l h = omega arith
-held (suc (suc (suc w))) n l h = absurd (omega arith)
-
 ready : (s : Setting) → sound s ≡ true → Ready (planOf s (shape (fields s)))
-unfolding sound
+unfolding headers sound
 ready s e =
     let g = good s e in
     let b : alignment (s .align) ≡ true = search (and-left, and-right) in
@@ -60,26 +28,23 @@ ready s e =
     record {
       ok = e;
       size = refl;
-      lenat = refl;
       lenwidth = refl;
-      ctrat = refl;
       ctrwidth = refl;
       aligned = alignment-is (s .align) b;
       cut-least = g .cut;
       cut-most = leb-true (s .datapacket) 1024 m;
-      longest-most = held (width LEN (fields s)) (s .longest) (len-narrow (s .header)) (g .most);
+      longest-most = omega (arith, g .most, at-most [] headers (λ fs. 256 ^ width LEN fs) (λ fs. 65536) refl refl (s .header));
       size-least = g .head;
       size-most = g .small;
       len-narrow = len-narrow (s .header);
-      len-inside = inside LEN (fields s);
-      ctr-narrow = ctr-narrow (s .header);
-      ctr-inside = inside CTR (fields s);
+      ctr-narrow = at-most [] headers (width CTR) (λ fs. 2) refl refl (s .header);
       len-first = g .first;
-      ctr-next = paired (s .header) .next;
+      ctr-next = where-some [] headers (width CTR) (place CTR) (width LEN) refl refl (s .header);
+      apart = at-most [] headers (λ fs. width LEN fs + width CTR fs) size refl refl (s .header);
       len-least = g .lens;
-      ctr-most = paired (s .header) .most;
-      ctr-odd = paired (s .header) .odd;
-      size-twice = paired (s .header) .twice;
+      ctr-most = at-most [] headers (width CTR) (width LEN) refl refl (s .header);
+      ctr-odd = at-most [] headers (λ fs. width CTR fs % 2 + width LEN fs) (λ fs. 2) refl refl (s .header);
+      size-twice = at-most [] headers size (λ fs. width LEN fs + width LEN fs) refl refl (s .header);
       layout = ltb-true (s .packing) 3 (search (and-left, and-right));
       eights = eqb-true (s .datapacket % 8) 0 (search (and-left, and-right));
       way = ltb-true (s .direction) 2 (search (and-left, and-right));

@@ -39,9 +39,7 @@ pub record LenOf (s : Setting) (w : ℕ) : Type 0 where
 pub record Ready (p : Plan) : Type 0 where
   pub ok : sound (setting p) ≡ true
   pub size : p .size ≡ H (setting p)
-  pub lenat : p .lenat ≡ place LEN (fields (setting p))
   pub lenwidth : p .lenwidth ≡ width LEN (fields (setting p))
-  pub ctrat : p .ctrat ≡ place CTR (fields (setting p))
   pub ctrwidth : p .ctrwidth ≡ width CTR (fields (setting p))
   pub aligned : Aligned (p .align)
   pub cut-least : 8 ≤ p .datapacket
@@ -50,12 +48,11 @@ pub record Ready (p : Plan) : Type 0 where
   pub size-least : 1 ≤ p .size
   pub size-most : p .size ≤ 4
   pub len-narrow : p .lenwidth ≤ 2
-  pub len-inside : p .lenat + p .lenwidth ≤ p .size
   pub ctr-narrow : p .ctrwidth ≤ 2
-  pub ctr-inside : p .ctrat + p .ctrwidth ≤ p .size
   -- LEN stands first, and CTR behind it
-  pub len-first : p .lenat ≡ 0
-  pub ctr-next : 0 < p .ctrwidth → p .ctrat ≡ p .lenwidth
+  pub len-first : place LEN (fields (setting p)) ≡ 0
+  pub ctr-next : 0 < p .ctrwidth → place CTR (fields (setting p)) ≡ p .lenwidth
+  pub apart : p .lenwidth + p .ctrwidth ≤ p .size
   -- which has as many bytes, or none: a CTR of one byte goes with a LEN of one; with both the header is full
   pub len-least : 1 ≤ p .lenwidth
   pub ctr-most : p .ctrwidth ≤ p .lenwidth

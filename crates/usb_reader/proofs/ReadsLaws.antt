@@ -1,8 +1,8 @@
 -- What comes before the loops: where they start, and the answer to a setting that is not sound, a state that is not valid, a transfer that is too long.
-use Prim.Native.Nat.{ℕ, zero, suc, _+_, _*_, _<_, _≤_}
+use Prim.Native.Nat.{ℕ, _*_, _<_, _≤_}
 use native.Mathlib.Omega.{arith}
 use native.Mathlib.Nat.{mod-self, zero-mod}
-use mathlib.Core.Path.{_≡_, refl}
+use mathlib.Core.Path.{_≡_}
 use mathlib.Core.Bool.{true, false}
 use mathlib.Core.List.{List}
 use lib.ListN.{length}
@@ -13,7 +13,6 @@ use Rattle.packet.specs.Counter.{valid}
 use Rattle.packet.specs.Limit.{mostBytes}
 use Rattle.packet.specs.Answer.{readRefused}
 use Rattle.plan.specs.declared.Plan.{Plan}
-use Rattle.plan.specs.Plan.{Sized}
 use Rattle.reading.specs.Loops.{Standing}
 use Rattle.reading.specs.Reads.{reads}
 use Rattle.reading.proofs.WalkLaws.{ahead-reads}
@@ -28,23 +27,8 @@ use Rattle.usb_reader.proofs.StepLaws.{Stands, tells}
 ---- The start ------------------------------------------------------------------------------------------------------------------
 
 module _ {p : Plan} (t : List ℕ) (k : Ready p) (l : length t ≤ mostBytes) where
-  inside : (w : ℕ) → p .ctrwidth ≡ w → p .lenwidth + p .ctrwidth ≤ p .size
-  inside zero e = omega (arith, k .len-inside, k .len-first)
-  inside (suc w) e = omega (arith, k .ctr-inside, k .ctr-next (omega arith))
-
-  sized : Sized p
-  sized = let i = inside (p .ctrwidth) refl in search needs
-
   first-standing : Standing p t (first p)
-  first-standing =
-      record {
-        sized = sized;
-        small = l;
-        short = omega arith;
-        near = omega arith;
-        within = omega arith;
-        whole = λ g. absurd (omega (arith, k .layout));
-      }
+  first-standing = search needs
 
   first-stands : Stands p (first p)
   first-stands = record { cut = mod-self (p .datapacket); aligned = zero-mod (p .align); single = λ e. omega arith }
@@ -55,30 +39,14 @@ module _ {p : Plan} (t : List ℕ) (k : Ready p) (l : length t ≤ mostBytes) wh
 
 module _ {p : Plan} {t : List ℕ} {c : Counter} where
   pub begun : Readable p t c → Begun p t
-  begun r =
-      record { ready = r .ready; start = record { standing = first-standing t (r .ready) (r .small); few = omega arith; least = omega arith } }
+  begun r = let s = first-standing t (r .ready) (r .small) in search needs
 
   pub roomy : {k n : ℕ} → Giveable p t c k → 5 * k ≤ n → Roomy p t c k n
-  roomy g l =
-      let r = g .readable in
-      record {
-        ready = r .ready;
-        start = record {
-          standing = first-standing t (r .ready) (r .small);
-          sane = r .sane;
-          rows = g .judged .is;
-          few = omega (arith, g .judged .small, r .small);
-          room = l;
-        };
-      }
+  roomy g l = let s = first-standing t (g .readable .ready) (g .readable .small) in search needs
 
 ---- The answer -----------------------------------------------------------------------------------------------------------------
 
 module _ (t : List ℕ) (c : Counter) (rows : List ℕ) where
-  -- the plan's setting is the one that was given
-  pub as-given : {q s : Setting} → q ≡ s → readOf s t c rows ≡ readOf q t c rows
-  as-given e = rw e
-
   -- for every state
   pub unsound : (s : Setting) → sound s ≡ false → readOf s t c rows ≡ readRefused rows 1 0
   unfolding readOf judged

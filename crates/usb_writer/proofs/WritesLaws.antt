@@ -1,10 +1,9 @@
 -- What is weighed, and what is written, is what is answered.
 use Prim.Native.Nat.{ℕ, _+_, _-_, _<_, _≤_}
 use native.Mathlib.Omega.{arith}
-use native.Mathlib.Nat.{zero-add}
 use mathlib.Core.Path.{_≡_, refl, sym, ap, _∙_}
-use mathlib.Core.Bool.{Bool, true, false, cond, _&&_, _||_}
-use mathlib.Core.List.{List, [], _++_}
+use mathlib.Core.Bool.{Bool, true, false, _&&_, _||_}
+use mathlib.Core.List.{List, []}
 use lib.ListN.{length, length-append}
 use lib.Seq.{sets}
 use lib.Dec.{ltb}
@@ -18,11 +17,12 @@ use Rattle.packet.specs.Answer.{Gives, writeRefused}
 use Rattle.packet.specs.Counter.{holds, later}
 use Rattle.packet.specs.Limit.{mostLengths, mostBytes}
 use Rattle.packet.specs.Packets.{packets, mismatched}
-use Rattle.packet.specs.Packets.{first as firstOf, sum as sumOf}
+use Rattle.packet.specs.Packets.{first as firstOf}
 use Rattle.packet.proofs.AnswerLaws.{gives-so}
 use Rattle.packet.proofs.WeighLaws as L
 use Rattle.packet.proofs.WeighLaws.{Call, answerOf, has-room}
 use Rattle.plan.specs.declared.Plan.{Plan}
+use Rattle.plan.proofs.CaseLaws.{by-test}
 use Rattle.usb.specs.declared.Setting.{Setting}
 use Rattle.usb.specs.Setting.{W, sound}
 use Rattle.usb.specs.Writing as U
@@ -36,7 +36,7 @@ use Rattle.writing.proofs.AllLaws.{bytes-length}
 use Rattle.writing.proofs.PutLaws.{rest-length}
 use Rattle.writing.proofs.ReachLaws.{Clear}
 use Rattle.usb_writer.specs.Writes.{Sizing, Putting, endOf, Ahead, Counted, Fitted, Roomy, composed, Composed}
-use Rattle.usb_writer.proofs.ShapeLaws.{shaped, formed, headed}
+use Rattle.usb_writer.proofs.ShapeLaws.{formed}
 use Rattle.usb_writer.proofs.SkipLaws.{Cut, first-cut}
 use Rattle.usb_writer.proofs.TransferLaws.{index-is, reach-cut, write-is, end-is}
 
@@ -45,7 +45,7 @@ counted k h l = record { ready = k; held = h; few = l }
 
 module _ {p : Plan} {ns : List ℕ} {c : ℕ} (k : Counted p ns c) where
   pub sizing : Sizing p ns
-  sizing = record { formed = formed (k .ready); shaped = shaped (k .ready); few = k .few }
+  sizing = record { ready = k .ready; sizable = record { formed = formed (k .ready); few = k .few; near = omega arith } }
 
   pub fitted : {z : Sized} {bs : List ℕ} → SizedAs p 0 ns z → length ns ≤ z .taken → z .sum ≡ length bs → Fitted p bs ns c (z .behind)
   fitted {z} s l e =
@@ -69,17 +69,13 @@ module _ {p : Plan} {bs ns : List ℕ} {c : ℕ} {a : At} (f : Fitted p bs ns c 
   ahead = record { ahead = cut .ahead }
 
   past : (full : Bool) → a .q ≤ endOf p a full
-  past full = at (full && ltb (a .end - a .q) (p .datapacket))
-    where
-      at : (b : Bool) → a .q ≤ cond b (a .end) (a .q)
-      at true = cut .ahead
-      at false = omega arith
+  past full = by-test (full && ltb (a .end - a .q) (p .datapacket)) (λ g. rw g (cut .ahead)) (λ g. rw g (omega arith))
 
   -- the messages end at the place
   messages-long : (fill : ℕ) → length (bytesFrom p fill (first 0) c (packets ns bs)) ≡ a .q
   messages-long fill =
       let e : a .q ≡ reach p (first 0) ns .q = ap (λ x. x .q) (f .behind) in
-      omega (arith, bytes-length (formed k) (headed k) fill {a = first 0} (λ _. omega arith) c ns bs (f .same) clear)
+      omega (arith, bytes-length (formed k) fill {a = first 0} (λ _. omega arith) c ns bs (f .same) clear)
 
   module _ (fill : ℕ) (full : Bool) where
     -- the transfer, as it is composed
@@ -94,9 +90,8 @@ module _ {p : Plan} {bs ns : List ℕ} {c : ℕ} {a : At} (f : Fitted p bs ns c 
     long : {end : ℕ} → end ≡ endOf p a full → length (write (setting p) fill full 0 c (packets ns bs)) ≡ end
     long {end} e =
         let m : List ℕ = bytesFrom p fill (first 0) c (packets ns bs) in
-        let l : p .lenwidth ≤ p .size = omega (arith, shaped k .inside) in
-        let r = rest-length (p .layout) l fill (endOf p a full - a .q) in
-        let o = length-append m (restBytes (p .layout) (p .lenwidth) (p .size) fill (endOf p a full - a .q)) in
+        let r = rest-length (formed k) fill (endOf p a full - a .q) in
+        let o = length-append m (restBytes p fill (endOf p a full - a .q)) in
         ap length whole ∙ omega (arith, messages-long fill, past full)
 
   pub roomy : (full : Bool) {end : ℕ} → end ≡ endOf p a full → {n : ℕ} → ltb n end || ltb mostBytes end ≡ false → Roomy p bs ns c a end n
@@ -105,17 +100,15 @@ module _ {p : Plan} {bs ns : List ℕ} {c : ℕ} {a : At} (f : Fitted p bs ns c 
       record { fitted = f; past = omega (arith, past full); room = room; most = most }
 
 module _ {p : Plan} {bs ns : List ℕ} {c : ℕ} {a : At} {end n : ℕ} (h : Roomy p bs ns c a end n) where
-  pub putting : (fill : ℕ) → Putting (p .layout) p (record { q = 0; ctr = c; free = fill }) bs ns n
+  pub putting : (fill : ℕ) → Putting p (record { q = 0; ctr = c; free = fill }) bs ns n
   putting fill =
       let f = h .fitted in
       let e : a .q ≡ reach p (first 0) ns .q = ap (λ x. x .q) (f .behind) in
       record {
-        layout = refl;
-        shaped = shaped (f .counted .ready);
+        ready = f .counted .ready;
         writable =
             record {
               formed = formed (f .counted .ready);
-              header = headed (f .counted .ready);
               held = f .counted .held;
               few = f .counted .few;
               sum = f .same;
@@ -123,15 +116,14 @@ module _ {p : Plan} {bs ns : List ℕ} {c : ℕ} {a : At} {end n : ℕ} (h : Roo
               room = omega (arith, h .past, h .room);
               most = omega (arith, h .past, h .most);
               start = λ _. refl;
-              near = omega arith;
             };
       }
 
   pub composed-is : (fill : ℕ) {old one new : List ℕ} {r : ℕ} → Wrote p (record { q = 0; ctr = c; free = fill }) bs ns old one r
-      → new ≡ sets one (a .q) (restBytes (p .layout) (p .lenwidth) (p .size) fill (end - a .q)) → Composed p bs ns c fill a end old new r
+      → new ≡ sets one (a .q) (restBytes p fill (end - a .q)) → Composed p bs ns c fill a end old new r
   composed-is fill {old} {one} {new} w x =
       let m : List ℕ = bytesFrom p fill (first 0) c (packets ns bs) in
-      let r : List ℕ = restBytes (p .layout) (p .lenwidth) (p .size) fill (end - a .q) in
+      let r : List ℕ = restBytes p fill (end - a .q) in
       let e : 0 + length m ≡ a .q = omega (arith, messages-long (h .fitted) fill) in
       record { bytes = x ∙ rw (w .bytes) (sym (sets-append m r old 0 ∙ rw e)); counter = w .counter }
 

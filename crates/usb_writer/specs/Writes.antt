@@ -1,5 +1,5 @@
 -- What the functions above the loops ask and tell.
-use Prim.Native.Nat.{ℕ, _+_, _*_, _-_, _<_, _≤_}
+use Prim.Native.Nat.{ℕ, _-_, _≤_}
 use mathlib.Core.Path.{_≡_}
 use mathlib.Core.Bool.{Bool, true, cond, _&&_}
 use mathlib.Core.List.{List, _++_}
@@ -15,27 +15,15 @@ use Rattle.usb_plan.specs.Plan.{Ready}
 use Rattle.writing.specs.declared.Begin.{Begin}
 use Rattle.writing.specs.Bytes.{restBytes}
 use Rattle.writing.specs.Puts.{bytesFrom, Writable}
-use Rattle.writing.specs.Sizes.{Formed, misfitAt, reach, first}
+use Rattle.writing.specs.Sizes.{misfitAt, reach, first, Sizable}
 
--- a plan in numbers: CTR, where there is one, is as wide as LEN, and a header without it is at most twice as wide
-pub record Shaped (p : Plan) : Type 0 where
-  pub layout : p .layout < 3
-  pub len-least : 1 ≤ p .lenwidth
-  pub len-most : p .lenwidth ≤ 2
-  pub ctr-most : p .ctrwidth ≤ p .lenwidth
-  pub alike : p .lenwidth + p .ctrwidth ≡ 3 → ⊥
-  pub inside : p .lenwidth + p .ctrwidth ≤ p .size
-  pub filled : p .size ≤ 2 * p .lenwidth
-
+-- lengths to be sized, and packets to be put
 pub record Sizing (p : Plan) (ns : List ℕ) : Type 0 where
-  pub formed : Formed p
-  pub shaped : Shaped p
-  pub few : length ns ≤ mostLengths
+  pub ready : Ready p
+  pub sizable : Sizable p 0 ns
 
--- packets to be put in a layout
-pub record Putting (l : ℕ) (p : Plan) (b : Begin) (bs ns : List ℕ) (n : ℕ) : Type 0 where
-  pub layout : l ≡ p .layout
-  pub shaped : Shaped p
+pub record Putting (p : Plan) (b : Begin) (bs ns : List ℕ) (n : ℕ) : Type 0 where
+  pub ready : Ready p
   pub writable : Writable p b bs ns n
 
 -- where a transfer ends whose messages end at a place: there, or filled up, where its data packet does
@@ -67,8 +55,7 @@ pub record Roomy (p : Plan) (bs ns : List ℕ) (c : ℕ) (a : At) (end n : ℕ) 
 
 -- the messages, and a rest behind them up to the end
 abbrev pub composed : Plan → (fill c : ℕ) → At → (end : ℕ) → List (List ℕ) → List ℕ
-composed p fill c a end bs =
-    bytesFrom p fill (first 0) c bs ++ restBytes (p .layout) (p .lenwidth) (p .size) fill (end - a .q)
+composed p fill c a end bs = bytesFrom p fill (first 0) c bs ++ restBytes p fill (end - a .q)
 
 pub record Composed (p : Plan) (bs ns : List ℕ) (c fill : ℕ) (a : At) (end : ℕ) (old new : List ℕ) (r : ℕ) : Type 0 where
   pub bytes : new ≡ sets old 0 (composed p fill c a end (packets ns bs))

@@ -30,76 +30,53 @@ fn size(p: Plan, lengths: &[u32]) -> Sized
     ensures { λ r. ⌜ SizedAs p 0 (now (lengths .entry)) r ⌝ }
 {
     if p.layout == 0 {
-        return size_loop(0, p.size, p.align, p, 0, lengths);
+        return size_loop(0, p.lenwidth, p.ctrwidth, p.size, p.align, p, 0, lengths);
     }
     if p.layout == 1 {
-        return size_loop(1, p.size, p.align, p, 0, lengths);
+        return size_loop(1, p.lenwidth, p.ctrwidth, p.size, p.align, p, 0, lengths);
     }
-    size_loop(2, p.size, p.align, p, 0, lengths)
+    size_loop(2, p.lenwidth, p.ctrwidth, p.size, p.align, p, 0, lengths)
 }
 
-// Writes messages in single packing. LEN and CTR are said by literals here; a header without CTR may have free bytes.
-fn put_single(p: Plan, b: Begin, packets: &[u8], lengths: &[u32], out: &mut [u8]) -> u32
-    requires { ⌜ Putting 0 p b (now packets) (now lengths) (length (now out)) ⌝ }
+// Writes messages. Each call says its case by literals, the layout and the bytes of LEN and of CTR. A header without CTR may have free bytes.
+fn put(p: Plan, b: Begin, packets: &[u8], lengths: &[u32], out: &mut [u8]) -> u32
+    requires { ⌜ Putting p b (now packets) (now lengths) (length (now out)) ⌝ }
     ensures { λ r. ⌜ Wrote p b (now (packets .entry)) (now (lengths .entry)) (now (out .entry)) (now (out .exit)) r ⌝ }
 {
     if p.ctrwidth == 1 {
-        return put_loop(0, 1, 1, 2, p.align, p, b, packets, lengths, out);
-    }
-    if p.ctrwidth == 2 {
-        return put_loop(0, 2, 2, 4, p.align, p, b, packets, lengths, out);
-    }
-    if p.lenwidth == 1 {
-        return put_loop(0, 1, 0, p.size, p.align, p, b, packets, lengths, out);
-    }
-    put_loop(0, 2, 0, p.size, p.align, p, b, packets, lengths, out)
-}
-
-// The same in multiple packing.
-fn put_multiple(p: Plan, b: Begin, packets: &[u8], lengths: &[u32], out: &mut [u8]) -> u32
-    requires { ⌜ Putting 1 p b (now packets) (now lengths) (length (now out)) ⌝ }
-    ensures { λ r. ⌜ Wrote p b (now (packets .entry)) (now (lengths .entry)) (now (out .entry)) (now (out .exit)) r ⌝ }
-{
-    if p.ctrwidth == 1 {
-        return put_loop(1, 1, 1, 2, p.align, p, b, packets, lengths, out);
-    }
-    if p.ctrwidth == 2 {
-        return put_loop(1, 2, 2, 4, p.align, p, b, packets, lengths, out);
-    }
-    if p.lenwidth == 1 {
-        return put_loop(1, 1, 0, p.size, p.align, p, b, packets, lengths, out);
-    }
-    put_loop(1, 2, 0, p.size, p.align, p, b, packets, lengths, out)
-}
-
-// The same in streaming packing.
-fn put_streaming(p: Plan, b: Begin, packets: &[u8], lengths: &[u32], out: &mut [u8]) -> u32
-    requires { ⌜ Putting 2 p b (now packets) (now lengths) (length (now out)) ⌝ }
-    ensures { λ r. ⌜ Wrote p b (now (packets .entry)) (now (lengths .entry)) (now (out .entry)) (now (out .exit)) r ⌝ }
-{
-    if p.ctrwidth == 1 {
+        if p.layout == 0 {
+            return put_loop(0, 1, 1, 2, p.align, p, b, packets, lengths, out);
+        }
+        if p.layout == 1 {
+            return put_loop(1, 1, 1, 2, p.align, p, b, packets, lengths, out);
+        }
         return put_loop(2, 1, 1, 2, p.align, p, b, packets, lengths, out);
     }
     if p.ctrwidth == 2 {
+        if p.layout == 0 {
+            return put_loop(0, 2, 2, 4, p.align, p, b, packets, lengths, out);
+        }
+        if p.layout == 1 {
+            return put_loop(1, 2, 2, 4, p.align, p, b, packets, lengths, out);
+        }
         return put_loop(2, 2, 2, 4, p.align, p, b, packets, lengths, out);
     }
     if p.lenwidth == 1 {
+        if p.layout == 0 {
+            return put_loop(0, 1, 0, p.size, p.align, p, b, packets, lengths, out);
+        }
+        if p.layout == 1 {
+            return put_loop(1, 1, 0, p.size, p.align, p, b, packets, lengths, out);
+        }
         return put_loop(2, 1, 0, p.size, p.align, p, b, packets, lengths, out);
     }
-    put_loop(2, 2, 0, p.size, p.align, p, b, packets, lengths, out)
-}
-
-fn put(p: Plan, b: Begin, packets: &[u8], lengths: &[u32], out: &mut [u8]) -> u32
-    requires { ⌜ Putting (p .layout) p b (now packets) (now lengths) (length (now out)) ⌝ }
-    ensures { λ r. ⌜ Wrote p b (now (packets .entry)) (now (lengths .entry)) (now (out .entry)) (now (out .exit)) r ⌝ }
-{
     if p.layout == 0 {
-        return put_single(p, b, packets, lengths, out);
+        return put_loop(0, 2, 0, p.size, p.align, p, b, packets, lengths, out);
     }
     if p.layout == 1 {
-        return put_multiple(p, b, packets, lengths, out);
+        return put_loop(1, 2, 0, p.size, p.align, p, b, packets, lengths, out);
     }
-    put_streaming(p, b, packets, lengths, out)
+    put_loop(2, 2, 0, p.size, p.align, p, b, packets, lengths, out)
 }
 
 // Where a transfer ends whose messages end at a place: there, or filled up, where its data packet does.
@@ -131,7 +108,7 @@ fn compose(
     };
     let next = put(p, b, packets, lengths, out);
     let at = a.q;
-    put_rest(p.layout, p.lenwidth, p.size, out, at, end - at, fill);
+    put_rest(p, out, at, end - at, fill);
     next
 }
 

@@ -1,12 +1,13 @@
 -- Comparing byte for byte.
 use Prim.Native.Nat.{ℕ, suc, _+_, _-_, _<_, _≤_}
+use borrow.Author.Needs.{needs}
 use native.Mathlib.Omega.{arith}
 use native.Mathlib.Numerals.{add-one}
 use mathlib.Core.Path.{_≡_, refl, sym, ap, _∙_}
 use mathlib.Core.Bool.{Bool, true, false, true≢false, _&&_}
 use mathlib.Core.List.{List, [], _∷_}
 use lib.ListN.{length, take, drop, getD, drop-of-length-le}
-use lib.Seq.{slice, slice-empty, slice-cons, drop-cons, drop-at, take-add, length-take-le}
+use lib.Seq.{slice, slice-empty, slice-cons, length-slice, drop-cons, drop-at, take-add, length-take-le}
 use lib.Dec.{eqb}
 use borrow.Author.Tests.{eqb-true, eq-eqb, ne-eqb}
 use Rattle.words.specs.Words.{same}
@@ -35,11 +36,11 @@ pub slice-is : (k n : ℕ) (t : List ℕ) → k ≤ length t → slice k (k + n)
 slice-is k n t h = rw (take-add k n t) (drop-at (take k t) (take n (drop k t)) k (length-take-le k t h))
 
 -- words of other lengths differ
-pub other-length : (s t : List ℕ) → (length s ≡ length t → ⊥) → false ≡ same s t
-other-length s t h = by (same s t) refl
+pub other-length : (t : List ℕ) (from to : ℕ) (w : List ℕ) → to ≤ length t → (to - from ≡ length w → ⊥) → false ≡ same (slice from to t) w
+other-length t from to w h u = by (same (slice from to t) w) refl
   where
-    by : (b : Bool) → same s t ≡ b → false ≡ b
-    by true e = absurd (h (ap length (same-true s t e)))
+    by : (b : Bool) → same (slice from to t) w ≡ b → false ≡ b
+    by true e = absurd (u (sym (length-slice from to t h) ∙ ap length (same-true (slice from to t) w e)))
     by false e = refl
 
 -- byte by byte
@@ -73,3 +74,5 @@ module _ {t : List ℕ} {from to : ℕ} {w : List ℕ} where
   compare-end {i} c h =
       let n : from + i ≡ to = omega (arith, c .size, c .upto) in
       sym (c .is ∙ rw (n, slice-empty to t, drop-of-length-le w h))
+
+pub ruleset compares = (needs, other-length, compare-first, compare-on, compare-other, compare-end)

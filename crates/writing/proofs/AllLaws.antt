@@ -2,13 +2,12 @@
 use Prim.Native.Nat.{ℕ, _+_, _-_, _<_, _≤_}
 use native.Mathlib.Omega.{arith}
 use mathlib.Core.Path.{_≡_, refl, sym, ap, _∙_}
-use mathlib.Core.Bool.{true, false}
+use mathlib.Core.Bool.{true}
 use mathlib.Core.List.{List, [], _∷_, _++_}
 use lib.ListN.{length, getD, take, drop, length-append, length-drop, length-take}
 use lib.Seq.{sets, length-sets}
 use Rattle.packet.specs.declared.At.{At}
 use Rattle.packet.specs.Counter.{holds, next, later}
-use Rattle.packet.specs.Limit.{mostBytes}
 use Rattle.packet.specs.Packets.{sum, packets}
 use Rattle.packet.proofs.CounterLaws.{held, next-holds}
 use Rattle.packet.proofs.TakeLaws.{here, none-left, Taking, taking, taking-next, packet-long, packets-on}
@@ -17,37 +16,36 @@ use Rattle.rows.specs.Counters.{Said, After}
 use Rattle.store.proofs.StoreLaws.{sets-behind}
 use Rattle.writing.specs.declared.Begin.{Begin}
 use Rattle.writing.specs.declared.Spot.{Spot}
-use Rattle.writing.specs.Bytes.{restBytes, messageBytes, Header, Passing}
-use Rattle.writing.specs.Places.{Placing, Placed, wholeOf}
-use Rattle.writing.specs.Puts.{passed, message, bytesFrom, Cased, Writable, Wrote}
-use Rattle.writing.specs.Sizes.{Formed, spot, reach, first}
+use Rattle.writing.specs.Bytes.{restBytes, messageBytes, Passing}
+use Rattle.writing.specs.Places.{spot, Formed, Placing, Placed}
+use Rattle.writing.specs.Puts.{passed, bytesFrom, Writable, Wrote}
+use Rattle.writing.specs.Sizes.{reach, first}
 use Rattle.writing.proofs.PutLaws.{rest-length, message-length}
-use Rattle.writing.proofs.ReachLaws.{Ahead, Fit, Clear, fit-limit, fit-frame, fit-ahead, clear-first, spot-past, reach-past}
+use Rattle.writing.proofs.ReachLaws.{Ahead, Fit, Clear, fit-limit, fit-ahead, clear-first, spot-past, reach-past}
 use Rattle.writing.proofs.SizeLaws.{limit-small}
 
 -- one message, and then the others
-module _ (p : Plan) (h : Header (p .lenwidth) (p .ctrwidth) (p .size)) (free : ℕ) (a : At) (c : ℕ) (b : List ℕ) (bs : List (List ℕ))
-    (l : a .q ≤ spot p a (length b) .from) where
+module _ {p : Plan} (k : Formed p) (free : ℕ) (a : At) (c : ℕ) (b : List ℕ) (bs : List (List ℕ)) (l : a .q ≤ spot p a (length b) .from) where
   abbrev others : List ℕ
   others = bytesFrom p free (spot p a (length b) .next) (next (p .ctrwidth) c) bs
 
-  long : a .q + length (passed p free a (length b) ++ message p free c b) ≡ spot p a (length b) .next .q
+  long : a .q + length (passed p free a (length b) ++ messageBytes p free c b) ≡ spot p a (length b) .next .q
   long =
       let r : List ℕ = passed p free a (length b) in
-      let m : List ℕ = message p free c b in
-      let i : length r ≡ spot p a (length b) .from - a .q = rest-length (p .layout) (omega (arith, h .inside)) free (spot p a (length b) .from - a .q) in
-      omega (arith, length-append r m, message-length (p .layout) (p .align) h free c b, spot-past p a (length b))
+      let m : List ℕ = messageBytes p free c b in
+      let i : length r ≡ spot p a (length b) .from - a .q = rest-length k free (spot p a (length b) .from - a .q) in
+      omega (arith, length-append r m, message-length k free c b, spot-past p a (length b))
 
   put-one : (out : List ℕ) → sets out (a .q) (bytesFrom p free a c (b ∷ bs))
-      ≡ sets (sets out (a .q) (passed p free a (length b) ++ message p free c b)) (spot p a (length b) .next .q) others
+      ≡ sets (sets out (a .q) (passed p free a (length b) ++ messageBytes p free c b)) (spot p a (length b) .next .q) others
   unfolding bytesFrom
-  put-one out = sets-behind (passed p free a (length b)) (message p free c b) others out (a .q) long
+  put-one out = sets-behind (passed p free a (length b)) (messageBytes p free c b) others out (a .q) long
 
   one-length : a .q + length (bytesFrom p free a c (b ∷ bs)) ≡ spot p a (length b) .next .q + length others
   unfolding bytesFrom
   one-length =
       let r : List ℕ = passed p free a (length b) in
-      let m : List ℕ = message p free c b in
+      let m : List ℕ = messageBytes p free c b in
       omega (arith, length-append r (m ++ others), length-append m others, length-append r m, long)
 
 none-length : (p : Plan) (free : ℕ) (a : At) (c : ℕ) → a .q + length (bytesFrom p free a c []) ≡ a .q
@@ -55,139 +53,126 @@ unfolding bytesFrom
 none-length p free a c = omega arith
 
 -- the bytes reach to the place behind the messages
-pub bytes-length : {p : Plan} → Formed p → Header (p .lenwidth) (p .ctrwidth) (p .size) → (free : ℕ) {a : At} → (p .layout < 3 → a .q ≤ a .end)
-    → (c : ℕ) (ns bs : List ℕ) → sum ns ≡ length bs → Clear p a ns
-    → a .q + length (bytesFrom p free a c (packets ns bs)) ≡ reach p a ns .q
+pub bytes-length : {p : Plan} → Formed p → (free : ℕ) {a : At} → (p .layout < 3 → a .q ≤ a .end) → (c : ℕ) (ns bs : List ℕ)
+    → sum ns ≡ length bs → Clear p a ns → a .q + length (bytesFrom p free a c (packets ns bs)) ≡ reach p a ns .q
 unfolding packets reach
-bytes-length {p} k h free {a} l c [] bs e f = none-length p free a c
-bytes-length {p} k h free {a} l c (n ∷ ns) bs e f =
+bytes-length {p} k free {a} l c [] bs e f = none-length p free a c
+bytes-length {p} k free {a} l c (n ∷ ns) bs e f =
     let z : length (take n bs) ≡ n = rw length-take (omega arith) in
     let d : sum ns ≡ length (drop n bs) = rw length-drop (omega arith) in
     let (x, y) = clear-first f in
     let s = fit-ahead k x l in
     let on : a .q ≤ spot p a (length (take n bs)) .from = rw z (s .on) in
-    let o = rw z at (one-length p h free a c (take n bs) (packets ns (drop n bs)) on) in
-    o ∙ bytes-length k h free (s .ahead) (next (p .ctrwidth) c) ns (drop n bs) d y
+    let o = rw z at (one-length k free a c (take n bs) (packets ns (drop n bs)) on) in
+    o ∙ bytes-length k free (s .ahead) (next (p .ctrwidth) c) ns (drop n bs) d y
 
 ---- The loop -------------------------------------------------------------------------------------------------------------------
 
 -- the messages before the one at i are written, up to place a; its packet starts at `from`, its counter is c
 pub record Writing (p : Plan) (b : Begin) (bs ns old out : List ℕ) (a : At) (c from i : ℕ) : Type 0 where
+  pub writable : Writable p b bs ns (length old)
   pub held : holds (p .ctrwidth) c ≡ true
   pub taking : Taking bs ns from i
   pub fit : Clear p a (drop i ns)
   pub ends : reach p (first (b .q)) ns ≡ reach p a (drop i ns)
   pub ahead : p .layout < 3 → a .q ≤ a .end
   pub end : a .end ≤ a .q + p .datapacket
-  pub inside : p .layout ≡ 3 → a .q ≤ 1024
   pub bytes : sets old (b .q) (bytesFrom p (b .free) (first (b .q)) (b .ctr) (packets ns bs))
       ≡ sets out (a .q) (bytesFrom p (b .free) a c (packets (drop i ns) (drop from bs)))
   pub counter : later (p .ctrwidth) (length ns) (b .ctr) ≡ later (p .ctrwidth) (length (drop i ns)) c
   pub long : length out ≡ length old
 
-module _ {p : Plan} {b : Begin} {bs ns old : List ℕ} (h : Writable p b bs ns (length old)) where
-  pub writing : Writing p b bs ns old old (first (b .q)) (b .ctr) 0 0
-  writing =
+module _ {p : Plan} {b : Begin} {bs ns old : List ℕ} where
+  pub writing : Writable p b bs ns (length old) → Writing p b bs ns old old (first (b .q)) (b .ctr) 0 0
+  writing h =
       record {
+        writable = h;
         held = h .held;
         taking = taking (h .sum);
         fit = record { none = h .fit };
         ends = refl;
         ahead = λ l. omega (arith, h .start l);
         end = omega arith;
-        inside = λ e. h .near;
         bytes = refl;
         counter = refl;
         long = refl;
       }
 
   module _ {out : List ℕ} {a : At} {c from i : ℕ} (w : Writing p b bs ns old out a c from i) where
+    abbrev h : Writable p b bs ns (length old)
+    h = w .writable
+
     pub writing-done : length ns ≤ i → Wrote p b bs ns old out c
     unfolding later packets bytesFrom
     writing-done l =
         let none = none-left ns i l in
         record { bytes = sym (w .bytes ∙ rw none); counter = sym (w .counter ∙ rw none) }
 
-    module _ {l lw cw z g : ℕ} (k : Cased l lw cw z g p) where
-      -- the counter is one that a message can say
-      pub said : Said cw c
-      said = rw (k .ctrwidth) (record { narrow = h .header .ctr-narrow; below = held (p .ctrwidth) c (w .held) })
+    -- the counter is one that a message can say
+    pub said : Said (p .ctrwidth) c
+    said = record { narrow = h .formed .sized .ctr-narrow; below = held (p .ctrwidth) c (w .held) }
 
-      module _ (t : i < length ns) {n : ℕ} (e : n ≡ getD ns i 0) where
-        fits : Fit p a n × Clear p (spot p a n .next) (drop (i + 1) ns)
-        fits = clear-first (rw (here ns i t e) at (w .fit))
+    module _ (t : i < length ns) {n : ℕ} (e : n ≡ getD ns i 0) where
+      fits : Fit p a n × Clear p (spot p a n .next) (drop (i + 1) ns)
+      fits = clear-first (rw (here ns i t e) at (w .fit))
 
-        past : Ahead (p .layout) a (spot p a n)
-        past = fit-ahead (h .formed) (fits .0) (w .ahead)
+      past : Ahead p a (spot p a n)
+      past = fit-ahead (h .formed) (fits .0) (w .ahead)
 
-        pub small : n < 65536
-        small = omega (arith, fit-limit (h .formed) (fits .0), limit-small (h .formed), h .formed .longest-most)
+      small : n < 65536
+      small = omega (arith, fit-limit (h .formed) (fits .0), limit-small p, h .formed .longest-most)
 
-        reach-on : reach p (first (b .q)) ns ≡ reach p (spot p a n .next) (drop (i + 1) ns)
-        unfolding reach
-        reach-on = w .ends ∙ rw (here ns i t e)
+      reach-on : reach p (first (b .q)) ns ≡ reach p (spot p a n .next) (drop (i + 1) ns)
+      unfolding reach
+      reach-on = w .ends ∙ rw (here ns i t e)
 
-        -- where the next place is, at most
-        behind : spot p a n .next .q ≤ reach p (first (b .q)) ns .q
-        behind =
-            let r : reach p (first (b .q)) ns .q ≡ reach p (spot p a n .next) (drop (i + 1) ns) .q = ap (λ x. x .q) reach-on in
-            omega (arith, reach-past (h .formed) (past .ahead) (drop (i + 1) ns) (fits .1))
+      -- where the next place is, at most
+      behind : spot p a n .next .q ≤ reach p (first (b .q)) ns .q
+      behind =
+          let r : reach p (first (b .q)) ns .q ≡ reach p (spot p a n .next) (drop (i + 1) ns) .q = ap (λ x. x .q) reach-on in
+          omega (arith, reach-past (h .formed) (past .ahead) (drop (i + 1) ns) (fits .1))
 
-        pub placing : Placing l z g (p .datapacket) a n
-        placing =
-            let f = h .formed in
-            rw (k .layout, k .size, k .align)
+      pub placing : Placing p a n
+      placing =
+          record { formed = h .formed; small = small; near = omega (arith, past .on, spot-past p a n, behind, h .most); end = w .end }
+
+      module _ {d : Spot} (x : Placed p a n d) {part : List ℕ} (f : part ≡ take n (drop from bs)) where
+        long-part : length part ≡ n
+        long-part = packet-long (w .taking) t e f
+
+        pub passing : Passing p out (a .q) (d .from) part
+        passing =
+            rw (x .is)
             (record {
-              aligned = f .aligned;
-              size-most = f .size-most;
-              cut = omega (arith, f .cut-least);
-              short = f .cut-most;
-              small = small;
-              near = omega (arith, past .on, spot-past p a n, behind, h .most);
-              end = w .end;
-              inside = w .inside;
+              skipping = record {
+                resting = record { formed = h .formed; room = omega (arith, past .on, spot-past p a n, behind, h .room, w .long) };
+                few = past .few;
+                stream = past .stream;
+              };
+              on = past .on;
+              small = omega (arith, small, long-part);
+              room = rw long-part (omega (arith, spot-past p a n, behind, h .room, w .long));
             })
 
-        module _ {d : Spot} (x : Placed l z g (p .datapacket) a n d) {part : List ℕ} (f : part ≡ take n (drop from bs)) where
-          there : d ≡ spot p a n
-          there = x .is ∙ rw (k .layout, k .size, k .align)
-
-          long-part : length part ≡ n
-          long-part = packet-long (w .taking) t e f
-
-          pub passing : Passing l lw cw z g out (a .q) (d .from) part
-          passing =
-              rw (k .layout, k .lenwidth, k .ctrwidth, k .size, k .align, there)
-              (record {
-                header = h .header;
-                aligned = h .formed .aligned;
-                small = omega (arith, small, long-part);
-                on = past .on;
-                room = rw long-part (omega (arith, spot-past p a n, behind, h .room, w .long));
-              })
-
-          pub writing-next : {new : List ℕ} {r to : ℕ} → to ≡ from + n
-              → new ≡ sets out (a .q) (restBytes l lw z (b .free) (d .from - a .q) ++ messageBytes l lw cw z g (b .free) c part) → After cw c r
-              → Writing p b bs ns old new (d .next) r to (i + 1)
-          unfolding later
-          writing-next {new} {r} {to} y v u =
-              let s = spot p a n in
-              let j : d .next ≡ s .next = ap (λ q. q .next) there in
-              let o : r ≡ next (p .ctrwidth) c = u .is ∙ rw (k .ctrwidth) in
-              let wrote : new ≡ sets out (a .q) (passed p (b .free) a (length part) ++ message p (b .free) c part) =
-              v ∙ rw (k .layout, k .lenwidth, k .ctrwidth, k .size, k .align, there, long-part) in
-              let put : List ℕ = passed p (b .free) a (length part) ++ message p (b .free) c part in
-              let q = put-one p (h .header) (b .free) a c part (packets (drop (i + 1) ns) (drop to bs)) (rw long-part (past .on)) out in
-              rw j
-              (record {
-                held = rw o (next-holds (p .ctrwidth) c (w .held));
-                taking = taking-next (w .taking) t e y;
-                fit = fits .1;
-                ends = reach-on;
-                ahead = past .ahead;
-                end = rw j at (x .end);
-                inside = λ m. omega (arith, fit-frame (h .formed) (fits .0) m, h .formed .cut-most);
-                bytes = w .bytes ∙ rw (packets-on (w .taking) t e y f) (q ∙ rw (← wrote, long-part, ← o));
-                counter = w .counter ∙ rw (here ns i t e, o);
-                long = ap length wrote ∙ length-sets out (a .q) put ∙ w .long;
-              })
+        pub writing-next : {new : List ℕ} {r to : ℕ} → to ≡ from + n
+            → new ≡ sets out (a .q) (restBytes p (b .free) (d .from - a .q) ++ messageBytes p (b .free) c part) → After (p .ctrwidth) c r
+            → Writing p b bs ns old new (d .next) r to (i + 1)
+        unfolding later
+        writing-next {new} {r} {to} y v u =
+            let j : d .next ≡ spot p a n .next = ap (λ q. q .next) (x .is) in
+            let put : List ℕ = passed p (b .free) a (length part) ++ messageBytes p (b .free) c part in
+            let wrote : new ≡ sets out (a .q) put = v ∙ rw (x .is, long-part) in
+            let q = put-one (h .formed) (b .free) a c part (packets (drop (i + 1) ns) (drop to bs)) (rw long-part (past .on)) out in
+            rw j
+            (record {
+              writable = h;
+              held = rw (u .is) (next-holds (p .ctrwidth) c (w .held));
+              taking = taking-next (w .taking) t e y;
+              fit = fits .1;
+              ends = reach-on;
+              ahead = past .ahead;
+              end = rw j at (x .end);
+              bytes = w .bytes ∙ rw (packets-on (w .taking) t e y f) (q ∙ rw (← wrote, long-part, ← u .is));
+              counter = w .counter ∙ rw (here ns i t e, u .is);
+              long = ap length wrote ∙ length-sets out (a .q) put ∙ w .long;
+            })

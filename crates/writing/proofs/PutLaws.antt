@@ -4,23 +4,26 @@ use native.Mathlib.Omega.{arith}
 use native.Mathlib.Nat.{zero-add, add-zero, div-add-mod'}
 use mathlib.Core.Path.{_≡_, refl, sym, ap, _∙_}
 use mathlib.Core.Logic.{inl, inr}
-use mathlib.Core.Bool.{Bool, true, false, cond, _&&_}
-use mathlib.Core.List.{List, [], _∷_, _++_, append-assoc}
+use mathlib.Core.Bool.{true, false, _&&_}
+use mathlib.Core.List.{List, _++_, append-assoc}
 use lib.ListN.{length, take, drop, set, replicate, length-append, length-replicate}
 use lib.Seq.{sets, sets-eq, take-all, set-set}
 use lib.Dec.{eqb, leb}
-use borrow.Author.Tests.{leb-true, leb-false, eqb-false, eq-eqb, ne-eqb, le-leb, lt-leb}
+use borrow.Author.Tests.{leb-true, leb-false, eqb-true, eqb-false, eq-eqb, ne-eqb, le-leb, lt-leb}
 use Rattle.layout.specs.Field.{bytes}
 use Rattle.layout.specs.Multiple.{pad, Aligned}
 use Rattle.layout.proofs.FieldLaws.{length-bytes}
 use Rattle.layout.proofs.MultipleLaws.{pad-less, pad-whole, aligned-power}
 use Rattle.layout.proofs.RunLaws.{sets-append}
 use Rattle.layout.proofs.TestLaws.{and-right}
-use Rattle.plan.specs.Place.{rests}
+use Rattle.plan.specs.declared.Plan.{Plan}
+use Rattle.plan.specs.Place.{rests, Beyond}
+use Rattle.plan.proofs.CaseLaws.{by-test}
+use Rattle.plan.proofs.PlaceLaws.{behind-on}
 use Rattle.store.proofs.OverLaws.{drop-replicate, front-over, fill-ends}
 use Rattle.store.proofs.StoreLaws.{sets-within, lent-rest}
-use Rattle.writing.specs.Bytes.{restBytes, headBytes, messageBytes, lastOf, Header, Tailing, Fitting, Passing}
-use Rattle.writing.specs.Places.{tailOf, wholeOf, Whole}
+use Rattle.writing.specs.Bytes.{restBytes, headBytes, messageBytes, lastOf, Skipping, Passing}
+use Rattle.writing.specs.Places.{wholeOf, Formed}
 
 ---- Rests ----------------------------------------------------------------------------------------------------------------------
 
@@ -30,39 +33,46 @@ front vs n b h =
     let l : length (replicate n b) ≡ n = length-replicate n b in
     sets-eq vs (replicate n b) 0 (omega arith) ∙ rw (zero-add (length vs), drop-replicate (length vs) n b)
 
-module _ (layout : ℕ) {lw size : ℕ} (h : lw ≤ size) (free n : ℕ) where
-  pub rest-length : length (restBytes layout lw size free n) ≡ n
+module _ {p : Plan} (k : Formed p) (free n : ℕ) where
+  pub rest-length : length (restBytes p free n) ≡ n
   unfolding restBytes
-  rest-length = at (rests layout && leb size n) refl
-    where
-      at : (b : Bool) → rests layout && leb size n ≡ b
-          → length (cond b (bytes lw 0 ++ replicate (n - lw) free) (replicate n free)) ≡ n
-      at true e =
-          simp (length-append, length-replicate, length-bytes) (omega (arith, leb-true size n (and-right (rests layout) (leb size n) e)))
-      at false e = length-replicate n free
+  rest-length =
+      by-test (rests p && leb (p .size) n)
+      (λ e. rw e
+      (simp (length-append, length-replicate, length-bytes)
+      (omega (arith, k .sized .fields, leb-true (p .size) n (and-right (rests p) (leb (p .size) n) e)))))
+      (λ e. rw e (length-replicate n free))
 
   module _ (out : List ℕ) (at : ℕ) where
     -- a rest of no bytes is no bytes
-    pub rest-none : n ≡ 0 → out ≡ sets out at (restBytes layout lw size free n)
-    rest-none e = ap (sets out at) (take-all 0 (restBytes layout lw size free n) (omega (arith, rest-length)))
+    pub rest-none : n ≡ 0 → out ≡ sets out at (restBytes p free n)
+    rest-none e = ap (sets out at) (take-all 0 (restBytes p free n) (omega (arith, rest-length)))
 
-    pub rest-free : rests layout && leb size n ≡ false → sets out at (replicate n free) ≡ sets out at (restBytes layout lw size free n)
+    pub rest-free : rests p && leb (p .size) n ≡ false → sets out at (replicate n free) ≡ sets out at (restBytes p free n)
     unfolding restBytes
     rest-free e = rw e
 
-    module _ (e : rests layout && leb size n ≡ true) where
-      pub header-fits : size ≤ n
-      header-fits = leb-true size n (and-right (rests layout) (leb size n) e)
+    -- in a frame there is none, and in a stream no header fits
+    pub rest-few : 2 ≤ p .layout → Skipping p out at n → sets out at (replicate n free) ≡ sets out at (restBytes p free n)
+    rest-few l s =
+        let o = ne-eqb (p .layout) 1 (λ e. omega arith) in
+        rest-free
+        (by-test (eqb (p .layout) 2) (λ g. rw (o, g, lt-leb (p .size) n (s .stream (eqb-true (p .layout) 2 g)))) (λ g. rw (o, g)))
 
-      pub rest-zeroed : sets (sets out at (replicate n free)) at (bytes lw 0) ≡ sets out at (restBytes layout lw size free n)
+    module _ (e : rests p && leb (p .size) n ≡ true) where
+      pub header-fits : p .size ≤ n
+      header-fits = leb-true (p .size) n (and-right (rests p) (leb (p .size) n) e)
+
+      pub rest-zeroed : sets (sets out at (replicate n free)) at (bytes (p .lenwidth) 0) ≡ sets out at (restBytes p free n)
       unfolding restBytes
       rest-zeroed =
-          let w : length (bytes lw 0) ≡ lw = length-bytes lw 0 in
+          let w : length (bytes (p .lenwidth) 0) ≡ p .lenwidth = length-bytes (p .lenwidth) 0 in
           let d : length (replicate n free) ≡ n = length-replicate n free in
-          let z : sets (replicate n free) 0 (bytes lw 0) ≡ bytes lw 0 ++ replicate (n - lw) free =
-          front (bytes lw 0) n free (omega (arith, header-fits)) ∙ rw w in
-          ap (λ k. sets (sets out at (replicate n free)) k (bytes lw 0)) (sym (add-zero at))
-          ∙ sets-within (bytes lw 0) (replicate n free) out at 0 (omega (arith, header-fits)) ∙ rw (z, e)
+          let f = k .sized .fields in
+          let z : sets (replicate n free) 0 (bytes (p .lenwidth) 0) ≡ bytes (p .lenwidth) 0 ++ replicate (n - p .lenwidth) free =
+          front (bytes (p .lenwidth) 0) n free (omega (arith, header-fits)) ∙ rw w in
+          ap (λ i. sets (sets out at (replicate n free)) i (bytes (p .lenwidth) 0)) (sym (add-zero at))
+          ∙ sets-within (bytes (p .lenwidth) 0) (replicate n free) out at 0 (omega (arith, header-fits)) ∙ rw (z, e)
 
 ---- Headers --------------------------------------------------------------------------------------------------------------------
 
@@ -73,34 +83,20 @@ free-put out at (suc zero) b h e = let k : at + 1 - 1 ≡ at = omega arith in rw
 free-put out at (suc (suc zero)) b h e = let k : at + 2 - 1 ≡ suc at = omega arith in rw k
 free-put out at (suc (suc (suc n))) b h e = absurd (omega arith)
 
-pub head-put : (lw cw size : ℕ) (out : List ℕ) (n ctr free : ℕ) {c : ℕ} {one two new : List ℕ} → c ≡ ctr
-    → one ≡ sets out 0 (bytes lw n) → two ≡ sets one lw (bytes cw c) → new ≡ sets two (lw + cw) (replicate (size - lw - cw) free)
-    → new ≡ sets out 0 (headBytes lw cw size free ctr n)
-head-put lw cw size out n ctr free e x y z =
-    let l : length (bytes lw n) ≡ lw = length-bytes lw n in
-    let k : length (bytes cw ctr) ≡ cw = length-bytes cw ctr in
-    let f : List ℕ = replicate (size - lw - cw) free in
+pub head-put : (p : Plan) (out : List ℕ) (n ctr free : ℕ) {c : ℕ} {one two new : List ℕ} → c ≡ ctr
+    → one ≡ sets out 0 (bytes (p .lenwidth) n) → two ≡ sets one (p .lenwidth) (bytes (p .ctrwidth) c)
+    → new ≡ sets two (p .lenwidth + p .ctrwidth) (replicate (p .size - p .lenwidth - p .ctrwidth) free)
+    → new ≡ sets out 0 (headBytes p free ctr n)
+head-put p out n ctr free e x y z =
+    let len : List ℕ = bytes (p .lenwidth) n in
+    let count : List ℕ = bytes (p .ctrwidth) ctr in
+    let f : List ℕ = replicate (p .size - p .lenwidth - p .ctrwidth) free in
+    let l : length len ≡ p .lenwidth = length-bytes (p .lenwidth) n in
+    let k : length count ≡ p .ctrwidth = length-bytes (p .ctrwidth) ctr in
     z ∙ rw (y, x, e)
-    (sym (sets-append (bytes lw n) (bytes cw ctr ++ f) out 0 ∙ rw (l, zero-add lw) (sets-append (bytes cw ctr) f (sets out 0 (bytes lw n)) lw ∙ rw k)))
-
-pub head-length : {lw cw size : ℕ} → Header lw cw size → (free c n : ℕ) → length (headBytes lw cw size free c n) ≡ size
-head-length h free c n = simp (length-append, length-replicate, length-bytes) (omega (arith, h .inside))
+    (sym (sets-append len (count ++ f) out 0 ∙ rw (l, zero-add (p .lenwidth)) (sets-append count f (sets out 0 len) (p .lenwidth) ∙ rw k)))
 
 ---- Tails ----------------------------------------------------------------------------------------------------------------------
-
-module _ (layout align : ℕ) (out : List ℕ) (end free : ℕ) where
-  pub tail-none : layout ≡ 3 → out ≡ sets out (end - lastOf layout align) (replicate (lastOf layout align) free)
-  tail-none e = rw (eq-eqb layout 3 e)
-
-  module _ (f : layout ≡ 3 → ⊥) (a : Aligned align) where
-    pub tail-ends : 4 ≤ align → align ≤ end → {one two : List ℕ} → one ≡ sets out (end - align) (replicate 4 free)
-        → two ≡ sets one (end - 4) (replicate 4 free) → two ≡ sets out (end - lastOf layout align) (replicate (lastOf layout align) free)
-    tail-ends h l x y =
-        rw (ne-eqb layout 3 f, le-leb 4 align h)
-        (fill-ends out (end - align) align 4 free h (omega (arith, aligned-power a .high)) x (omega arith) y)
-
-    pub tail-byte : align < 4 → set out (end - 1) free ≡ sets out (end - lastOf layout align) (replicate (lastOf layout align) free)
-    tail-byte h = rw (ne-eqb layout 3 f, lt-leb 4 align h)
 
 -- a multiple of the alignment is as long as that
 multiple-least : (a x : ℕ) → 0 < x → x % a ≡ 0 → a ≤ x
@@ -117,63 +113,71 @@ pad-one {a} (inr (inl e)) l x = omega (arith, pad-less a x (omega arith))
 pad-one (inr (inr (inl e))) l x = absurd (omega arith)
 pad-one (inr (inr (inr e))) l x = absurd (omega arith)
 
--- as many last bytes as the tail can have lie inside the message, and hold the tail
-pub record Last (layout size align n w : ℕ) : Type 0 where
-  pub holds : tailOf layout align (size + n) ≤ lastOf layout align
-  pub inside : lastOf layout align ≤ w
+module _ {p : Plan} (k : Formed p) where
+  module _ (out : List ℕ) (end free : ℕ) where
+    pub tail-none : p .layout ≡ 3 → out ≡ sets out (end - lastOf p) (replicate (lastOf p) free)
+    tail-none e = rw (eq-eqb (p .layout) 3 e)
 
-module _ {layout size align n w : ℕ} (v : Whole layout size align n w) (a : Aligned align) (some : 1 ≤ size) where
-  pub reached : (layout ≡ 3 → ⊥) → align ≤ w
-  reached f =
-      let low = aligned-power a .low in
-      let e : w ≡ size + n + pad align (size + n) = v .is ∙ rw (ne-eqb layout 3 f) in
-      multiple-least align w (omega (arith, v .past)) (rw e (pad-whole align (size + n) low))
+    module _ (f : p .layout ≡ 3 → ⊥) where
+      pub tail-ends : 4 ≤ p .align → p .align ≤ end → {one two : List ℕ} → one ≡ sets out (end - p .align) (replicate 4 free)
+          → two ≡ sets one (end - 4) (replicate 4 free) → two ≡ sets out (end - lastOf p) (replicate (lastOf p) free)
+      tail-ends h l x y =
+          rw (ne-eqb (p .layout) 3 f, le-leb 4 (p .align) h)
+          (fill-ends out (end - p .align) (p .align) 4 free h (omega (arith, aligned-power (k .sized .aligned) .high)) x (omega arith) y)
 
-  pub last-bytes : Last layout size align n w
-  last-bytes = at (eqb layout 3) (leb 4 align) refl refl
-    where
-      at : (b c : Bool) → eqb layout 3 ≡ b → leb 4 align ≡ c → Last layout size align n w
-      at true c g h = record { holds = rw g (omega arith); inside = rw g (omega arith) }
-      at false true g h =
-          let l = pad-less align (size + n) (aligned-power a .low) in
-          record { holds = rw (g, h) (omega arith); inside = rw (g, h) (reached (eqb-false layout 3 g)) }
-      at false false g h =
-          record { holds = rw (g, h) (pad-one a (leb-false 4 align h) (size + n)); inside = rw (g, h) (omega (arith, v .past)) }
+      pub tail-byte : p .align < 4 → set out (end - 1) free ≡ sets out (end - lastOf p) (replicate (lastOf p) free)
+      tail-byte h = rw (ne-eqb (p .layout) 3 f, lt-leb 4 (p .align) h)
 
----- Messages -------------------------------------------------------------------------------------------------------------------
+  module _ (n : ℕ) {w : ℕ} (v : Beyond (wholeOf p n) (p .size + n) w) where
+    pub reached : (p .layout ≡ 3 → ⊥) → p .align ≤ w
+    reached f =
+        let e : w ≡ p .size + n + pad (p .align) (p .size + n) = v .is ∙ rw (ne-eqb (p .layout) 3 f) in
+        let m = pad-whole (p .align) (p .size + n) (aligned-power (k .sized .aligned) .low) in
+        multiple-least (p .align) w (omega (arith, v .on, k .sized .size-least)) (rw e m)
 
-pub message-put : {layout lw cw size align : ℕ} → Header lw cw size → Aligned align → (out b : List ℕ) (ctr free : ℕ) {w : ℕ}
-    {end one new : List ℕ} → Whole layout size align (length b) w
-    → end ≡ sets out (w - lastOf layout align) (replicate (lastOf layout align) free)
-    → one ≡ sets end 0 (headBytes lw cw size free ctr (length b)) → new ≡ sets one size b
-    → new ≡ sets out 0 (messageBytes layout lw cw size align free ctr b)
-message-put {layout} {lw} {cw} {size} {align} k a out b ctr free {w} {end} {one} {new} v z x y =
-    let n : ℕ = length b in
-    let hs : List ℕ = headBytes lw cw size free ctr n in
-    let t : ℕ = tailOf layout align (size + n) in
-    let i : ℕ = lastOf layout align in
-    let d = last-bytes v a (k .some) in
-    let l : length hs ≡ size = head-length k free ctr n in
-    let m : length (hs ++ b) ≡ size + n = length-append hs b ∙ rw l in
-    let both : new ≡ sets end 0 (hs ++ b) = y ∙ rw x (sym (sets-append hs b end 0 ∙ rw (l, zero-add size))) in
-    let f : List ℕ = replicate i free in
-    let j : ℕ = w - i in
-    let over : sets (sets out j f) 0 (hs ++ b) ≡ sets out 0 ((hs ++ b) ++ drop (length (hs ++ b) - j) f) =
-    rw zero-add at (front-over (hs ++ b) f out 0 j (omega (arith, d .holds, v .is))) in
-    let e : i - (length (hs ++ b) - j) ≡ t = omega (arith, v .is, d .holds, d .inside) in
-    both ∙ rw z (over ∙ rw (drop-replicate (length (hs ++ b) - j) i free, e, append-assoc hs b (replicate t free)))
+    -- as many last bytes as the tail can have lie inside the message, and hold the tail
+    last-bytes : (w ≤ p .size + n + lastOf p) × (lastOf p ≤ w)
+    last-bytes =
+        by-test (eqb (p .layout) 3) (λ g. let e : w ≡ p .size + n = v .is ∙ rw g in rw g (omega arith, omega arith))
+        (λ g. let e : w ≡ p .size + n + pad (p .align) (p .size + n) = v .is ∙ rw g in
+        by-test (leb 4 (p .align))
+        (λ h. let l = pad-less (p .align) (p .size + n) (aligned-power (k .sized .aligned) .low) in
+        rw (g, h) (omega arith, reached (eqb-false (p .layout) 3 g)))
+        (λ h. let l = pad-one (k .sized .aligned) (leb-false 4 (p .align) h) (p .size + n) in
+        rw (g, h) (omega arith, omega (arith, v .on, k .sized .size-least))))
 
-pub message-length : (layout align : ℕ) {lw cw size : ℕ} → Header lw cw size → (free c : ℕ) (b : List ℕ)
-    → length (messageBytes layout lw cw size align free c b) ≡ wholeOf layout size align (length b)
-message-length layout align k free c b = simp (length-append, length-replicate, length-bytes) (omega (arith, k .inside))
+  ---- Messages -----------------------------------------------------------------------------------------------------------------
 
--- .. and a message behind the rest before it, where the output from its place on was lent
-pub one-put : {layout lw cw size align : ℕ} {out : List ℕ} {q from : ℕ} {b : List ℕ} → Passing layout lw cw size align out q from b
-    → (free : ℕ) (msg : List ℕ) {one ys : List ℕ} → one ≡ sets out q (restBytes layout lw size free (from - q))
-    → ys ≡ sets (take (length one - from) (drop from one)) 0 msg
-    → take from one ++ (ys ++ drop (length one - from) (drop from one)) ≡ sets out q (restBytes layout lw size free (from - q) ++ msg)
-one-put {layout} {lw} {cw} {size} {align} {out} {q} {from} h free msg {one} x y =
-    let r : List ℕ = restBytes layout lw size free (from - q) in
-    let l : length r ≡ from - q = rest-length layout (omega (arith, h .header .inside)) free (from - q) in
-    let k : q + length r ≡ from = omega (arith, h .on) in
-    lent-rest one msg from y ∙ rw x (sym (sets-append r msg out q ∙ rw k))
+  pub head-length : (free c n : ℕ) → length (headBytes p free c n) ≡ p .size
+  head-length free c n = simp (length-append, length-replicate, length-bytes) (omega (arith, k .sized .fields))
+
+  pub message-put : (out b : List ℕ) (ctr free : ℕ) {w : ℕ} {end one new : List ℕ} → Beyond (wholeOf p (length b)) (p .size + length b) w
+      → end ≡ sets out (w - lastOf p) (replicate (lastOf p) free) → one ≡ sets end 0 (headBytes p free ctr (length b))
+      → new ≡ sets one (p .size) b → new ≡ sets out 0 (messageBytes p free ctr b)
+  message-put out b ctr free {w} {end} {one} {new} v z x y =
+      let n : ℕ = length b in
+      let hs : List ℕ = headBytes p free ctr n in
+      let i : ℕ = lastOf p in
+      let (low, high) = last-bytes n v in
+      let l : length hs ≡ p .size = head-length free ctr n in
+      let m : length (hs ++ b) ≡ p .size + n = length-append hs b ∙ rw l in
+      let both : new ≡ sets end 0 (hs ++ b) = y ∙ rw x (sym (sets-append hs b end 0 ∙ rw (l, zero-add (p .size)))) in
+      let f : List ℕ = replicate i free in
+      let j : ℕ = w - i in
+      let over : sets (sets out j f) 0 (hs ++ b) ≡ sets out 0 ((hs ++ b) ++ drop (length (hs ++ b) - j) f) =
+      rw zero-add at (front-over (hs ++ b) f out 0 j (omega arith)) in
+      let e : i - (length (hs ++ b) - j) ≡ w - (p .size + n) = omega (arith, v .on) in
+      both ∙ rw z (over ∙ rw (drop-replicate (length (hs ++ b) - j) i free, e, append-assoc hs b (replicate (w - (p .size + n)) free), v .is))
+
+  pub message-length : (free c : ℕ) (b : List ℕ) → length (messageBytes p free c b) ≡ wholeOf p (length b)
+  message-length free c b =
+      simp (length-append, length-replicate, length-bytes) (omega (arith, k .sized .fields, behind-on p (p .size + length b)))
+
+-- a message behind the rest before it, where the output from its place on was lent
+pub one-put : {p : Plan} {out : List ℕ} {q from : ℕ} {b : List ℕ} → Passing p out q from b → (free : ℕ) (msg : List ℕ) {one ys : List ℕ}
+    → one ≡ sets out q (restBytes p free (from - q)) → ys ≡ sets (take (length one - from) (drop from one)) 0 msg
+    → take from one ++ (ys ++ drop (length one - from) (drop from one)) ≡ sets out q (restBytes p free (from - q) ++ msg)
+one-put {p} {out} {q} {from} h free msg {one} x y =
+    let r : List ℕ = restBytes p free (from - q) in
+    let e : q + length r ≡ from = omega (arith, h .on, rest-length (h .skipping .resting .formed) free (from - q)) in
+    lent-rest one msg from y ∙ rw x (sym (sets-append r msg out q ∙ rw e))

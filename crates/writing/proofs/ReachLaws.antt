@@ -1,21 +1,24 @@
 -- Places that lengths which fit come to: each is in its data packet or at its end, and none is before the one behind which it stands.
 use Prim.Native.Nat.{ℕ, zero, suc, _+_, _-_, _%_, _<_, _≤_, min}
 use native.Mathlib.Omega.{arith}
-use mathlib.Core.Path.{_≡_, refl, sym, ap, _∙_}
+use mathlib.Core.Path.{_≡_, refl}
 use mathlib.Core.Logic.{inl, inr}
-use mathlib.Core.Bool.{Bool, true, false, cond, not, _&&_, _||_}
+use mathlib.Core.Bool.{false, _&&_, _||_}
 use mathlib.Core.List.{List, [], _∷_}
 use lib.ListN.{length}
 use lib.Dec.{eqb, ltb}
-use borrow.Author.Tests.{ltb-true, ltb-false, lt-ltb, eq-eqb, eqb-false}
+use borrow.Author.Tests.{ltb-false, lt-ltb, le-ltb, eq-eqb, ne-eqb, eqb-false}
 use Rattle.layout.specs.Multiple.{pad, Aligned}
+use Rattle.layout.proofs.MultipleLaws.{pad-less, aligned-power}
 use Rattle.layout.proofs.TestLaws.{or-left, or-right}
 use Rattle.packet.specs.declared.At.{At}
 use Rattle.plan.specs.declared.Plan.{Plan}
 use Rattle.plan.specs.Place.{streamedAt}
+use Rattle.plan.proofs.CaseLaws.{by-test, by-less}
+use Rattle.plan.proofs.PlaceLaws.{streamed-past}
 use Rattle.writing.specs.declared.Spot.{Spot}
-use Rattle.writing.specs.Places.{wholeOf, crossesAt, standing, spotAt}
-use Rattle.writing.specs.Sizes.{Formed, spot, limitOf, misfit, misfitAt, reach}
+use Rattle.writing.specs.Places.{wholeOf, crossesAt, standing, spot, Formed}
+use Rattle.writing.specs.Sizes.{limitOf, misfit, misfitAt, reach}
 
 ---- One message ----------------------------------------------------------------------------------------------------------------
 
@@ -27,34 +30,46 @@ whole-fits (inr (inl e)) h l = rw e (omega arith)
 whole-fits (inr (inr (inl e))) h l = rw e (omega arith)
 whole-fits (inr (inr (inr e))) h l = rw e (omega arith)
 
--- a stream's place is not past the end of its data packet
-stream-ahead : (m end q : ℕ) → q ≤ streamedAt m end q
-stream-ahead m end q = next (cond (ltb q end) end (end + m)) (ltb q (cond (ltb q end) end (end + m))) refl
-  where
-    next : (e : ℕ) (b : Bool) → ltb q e ≡ b → q ≤ cond b e (q + (m - q % m))
-    next e true g = omega (arith, ltb-true q e g)
-    next e false g = omega arith
-
--- a message stands behind its place, and the place behind it is not past the end of its data packet
-pub record Ahead (layout : ℕ) (a : At) (s : Spot) : Type 0 where
+-- a message stands behind its place, and the place behind it is not past the end of its data packet. In a frame a few bytes are passed over, in
+-- a stream less than a header has
+pub record Ahead (p : Plan) (a : At) (s : Spot) : Type 0 where
   pub on : a .q ≤ s .from
-  pub ahead : layout < 3 → s .next .q ≤ s .next .end
+  pub ahead : p .layout < 3 → s .next .q ≤ s .next .end
+  pub few : 1 < p .layout → s .from - a .q ≤ 8
+  pub stream : p .layout ≡ 2 → s .from - a .q < p .size
 
-ahead : (layout size align m : ℕ) (a : At) {w : ℕ} → layout ≤ 3 → (layout < 3 → a .q ≤ a .end) → (layout < 2 → w ≤ m)
-    → Ahead layout a (standing layout align m w a (crossesAt layout size w a))
-ahead zero size align m a l h f = record { on = h (omega arith); ahead = λ _. omega (arith, f (omega arith)) }
-ahead (suc zero) size align m a {w} l h f = at (ltb (a .end) (a .q + w)) refl
-  where
-    at : (b : Bool) → ltb (a .end) (a .q + w) ≡ b → Ahead 1 a (standing 1 align m w a b)
-    at true g = record { on = h (omega arith); ahead = λ _. omega (arith, f (omega arith)) }
-    at false g = record { on = omega arith; ahead = λ _. ltb-false (a .end) (a .q + w) g }
-ahead (suc (suc zero)) size align m a {w} l h f = at (ltb (a .end) (a .q + size))
-  where
-    at : (b : Bool) → Ahead 2 a (standing 2 align m w a b)
-    at true = record { on = h (omega arith); ahead = λ _. stream-ahead m (a .end + m) (a .end + w) }
-    at false = record { on = omega arith; ahead = λ _. stream-ahead m (a .end) (a .q + w) }
-ahead (suc (suc (suc zero))) size align m a l h f = record { on = omega arith; ahead = λ x. absurd (omega arith) }
-ahead (suc (suc (suc (suc k)))) size align m a l h f = absurd (omega arith)
+module _ {p : Plan} (k : Formed p) {a : At} (h : p .layout < 3 → a .q ≤ a .end) {w : ℕ} (f : p .layout < 2 → w ≤ p .datapacket) where
+  ahead-is : {x y : Spot} → x ≡ y → Ahead p a y → Ahead p a x
+  ahead-is e s = rw e s
+
+  -- in single and multiple packing
+  packed : p .layout < 2 → (from q end : ℕ) → a .q ≤ from → q ≤ end → Ahead p a (record { from = from; next = record { q = q; end = end } })
+  packed l from q end on u = record { on = on; ahead = λ _. u; few = λ x. absurd (omega arith); stream = λ x. absurd (omega arith) }
+
+  -- .. at the start of the next data packet
+  over : p .layout < 2 → Ahead p a (record { from = a .end; next = record { q = a .end + w; end = a .end + p .datapacket } })
+  over l = packed l (a .end) (a .end + w) (a .end + p .datapacket) (h (omega arith)) (omega (arith, f l))
+
+  streams : p .layout ≡ 2 → (from end : ℕ) → a .q ≤ from → from - a .q < p .size
+      → Ahead p a (record { from = from; next = record { q = from + w; end = streamedAt (p .datapacket) end (from + w) } })
+  streams e from end on l =
+      record { on = on; ahead = λ _. streamed-past (p .datapacket) end (from + w); few = λ _. omega (arith, k .sized .size-most); stream = λ _. l }
+
+  ahead : (x : ℕ) → p .layout ≡ x → Ahead p a (standing p w a (crossesAt p w a))
+  ahead zero e = ahead-is (rw e) (over (omega arith))
+  ahead (suc zero) e =
+      by-less (a .end) (a .q + w) (λ l. ahead-is (rw (e, lt-ltb (a .end) (a .q + w) l)) (over (omega arith)))
+      (λ l. ahead-is (rw (e, le-ltb (a .end) (a .q + w) l)) (packed (omega arith) (a .q) (a .q + w) (a .end) (omega arith) l))
+  ahead (suc (suc zero)) e =
+      by-less (a .end) (a .q + p .size)
+      (λ l. ahead-is (rw (e, lt-ltb (a .end) (a .q + p .size) l))
+      (streams e (a .end) (a .end + p .datapacket) (h (omega arith)) (omega (arith, k .sized .size-least))))
+      (λ l. ahead-is (rw (e, le-ltb (a .end) (a .q + p .size) l)) (streams e (a .q) (a .end) (omega arith) (omega (arith, k .sized .size-least))))
+  ahead (suc (suc (suc zero))) e =
+      let i = aligned-power (k .sized .aligned) in
+      let l = pad-less (p .align) (a .q + 1) (i .low) in
+      rw e (record { on = omega arith; ahead = λ x. absurd (omega arith); few = λ _. omega (arith, i .high); stream = λ x. absurd (omega arith) })
+  ahead (suc (suc (suc (suc x)))) e = absurd (omega (arith, k .layout-most))
 
 -- a length that fits from a place on, and a list of them
 pub record Fit (p : Plan) (a : At) (n : ℕ) : Type 0 where
@@ -74,18 +89,12 @@ module _ {p : Plan} (k : Formed p) {a : At} {n : ℕ} (f : Fit p a n) where
   fit-limit = ltb-false (limitOf p) n (or-right (eqb n 0) (ltb (limitOf p) n) short)
 
   -- in single and multiple packing its message fits a data packet
-  pub fit-packet : p .layout < 2 → wholeOf (p .layout) (p .size) (p .align) n ≤ p .datapacket
-  fit-packet l = at (p .layout) refl l
-    where
-      room : p .size + n ≤ p .datapacket
-      room =
-          let y : limitOf p ≡ min (p .longest) (p .datapacket - p .size) = rw (lt-ltb (p .layout) 2 l) in
-          omega (arith, fit-limit, k .size-most, k .cut-least)
-
-      at : (x : ℕ) → p .layout ≡ x → x < 2 → wholeOf x (p .size) (p .align) n ≤ p .datapacket
-      at zero e h = whole-fits (k .aligned) (k .eights (omega arith)) room
-      at (suc zero) e h = whole-fits (k .aligned) (k .eights (omega arith)) room
-      at (suc (suc x)) e h = absurd (omega arith)
+  pub fit-packet : p .layout < 2 → wholeOf p n ≤ p .datapacket
+  fit-packet l =
+      let y : limitOf p ≡ min (p .longest) (p .datapacket - p .size) = rw (lt-ltb (p .layout) 2 l) in
+      let z : eqb (p .layout) 3 ≡ false = ne-eqb (p .layout) 3 (λ e. omega arith) in
+      let s = k .sized in
+      rw z (whole-fits (s .aligned) (k .eights l) (omega (arith, fit-limit, s .size-most, s .cut-least)))
 
   -- in a frame its packet ends inside
   pub fit-frame : p .layout ≡ 3 → spot p a n .next .q ≤ p .datapacket
@@ -93,25 +102,23 @@ module _ {p : Plan} (k : Formed p) {a : At} {n : ℕ} (f : Fit p a n) where
       let y = or-right (eqb n 0 || ltb (limitOf p) n) (eqb (p .layout) 3 && ltb (p .datapacket) (spot p a n .next .q)) (f .is) in
       ltb-false (p .datapacket) (spot p a n .next .q) (rw (eq-eqb (p .layout) 3 e) at y)
 
-  pub fit-ahead : (p .layout < 3 → a .q ≤ a .end) → Ahead (p .layout) a (spot p a n)
-  unfolding spotAt
-  fit-ahead h = ahead (p .layout) (p .size) (p .align) (p .datapacket) a (k .layout-most) h fit-packet
+  pub fit-ahead : (p .layout < 3 → a .q ≤ a .end) → Ahead p a (spot p a n)
+  unfolding spot
+  fit-ahead h = ahead k h fit-packet (p .layout) refl
 
 ---- All messages ---------------------------------------------------------------------------------------------------------------
 
 -- where all fit, the first does, and those behind it
 pub clear-first : {p : Plan} {a : At} {n : ℕ} {ns : List ℕ} → Clear p a (n ∷ ns) → Fit p a n × Clear p (spot p a n .next) ns
 unfolding misfitAt
-clear-first {p} {a} {n} {ns} c = at (misfit p a n) refl (c .none)
-  where
-    at : (b : Bool) → misfit p a n ≡ b → cond b 0 (suc (misfitAt p (spot p a n .next) ns)) ≡ suc (length ns)
-        → Fit p a n × Clear p (spot p a n .next) ns
-    at true g e = absurd (omega arith)
-    at false g e = (record { is = g }, record { none = omega arith })
+clear-first {p} {a} {n} {ns} c =
+    by-test (misfit p a n) (λ g. let e : 0 ≡ suc (length ns) = rw g at (c .none) in absurd (omega arith))
+    (λ g. let e : suc (misfitAt p (spot p a n .next) ns) ≡ suc (length ns) = rw g at (c .none) in
+    (record { is = g }, record { none = omega arith }))
 
 -- a message of some bytes stands before the place behind it
-pub spot-past : (p : Plan) (a : At) (n : ℕ) → spot p a n .next .q ≡ spot p a n .from + wholeOf (p .layout) (p .size) (p .align) n
-unfolding spotAt
+pub spot-past : (p : Plan) (a : At) (n : ℕ) → spot p a n .next .q ≡ spot p a n .from + wholeOf p n
+unfolding spot
 spot-past p a n = refl
 
 -- the messages end behind where they start

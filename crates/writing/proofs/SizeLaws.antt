@@ -2,33 +2,28 @@
 use Prim.Native.Nat.{ℕ, suc, _+_, _-_, _*_, _<_, _≤_, min}
 use native.Mathlib.Omega.{arith}
 use mathlib.Core.Path.{_≡_, refl, sym, ap, _∙_}
-use mathlib.Core.Bool.{Bool, true, false, cond, _&&_, _||_}
-use mathlib.Core.List.{List, [], _∷_}
+use mathlib.Core.Bool.{Bool, true, false, _&&_, _||_}
+use mathlib.Core.List.{List}
 use lib.ListN.{length, getD, drop}
 use lib.Dec.{eqb, ltb}
-use borrow.Author.Tests.{eq-eqb, ltb-false}
-use Rattle.layout.proofs.TestLaws.{or-left, or-right}
+use borrow.Author.Tests.{ltb-false}
+use Rattle.layout.proofs.TestLaws.{or-right}
 use Rattle.packet.specs.declared.At.{At}
 use Rattle.packet.specs.Packets.{sum as sumOf}
 use Rattle.packet.proofs.TakeLaws.{here, none-left}
 use Rattle.plan.specs.declared.Plan.{Plan}
 use Rattle.writing.specs.declared.Spot.{Spot}
-use Rattle.writing.specs.Places.{Placing, Placed}
-use Rattle.writing.specs.Sizes.{Formed, Alike, spot, limitOf, misfit, misfitAt, reach, first, Sizable, SizedAs}
+use Rattle.writing.specs.Places.{spot, Placing, Placed}
+use Rattle.writing.specs.Sizes.{limitOf, misfit, misfitAt, reach, first, Sizable, SizedAs}
+use Rattle.writing.proofs.PlaceLaws.{picked}
 
 -- what fits by its length is short
-least-of : (x y : ℕ) → min x y ≤ x
-least-of x y = omega arith
-
-pub limit-small : {p : Plan} → Formed p → limitOf p ≤ p .longest
-limit-small {p} k = at (ltb (p .layout) 2)
-  where
-    at : (b : Bool) → cond b (min (p .longest) (p .datapacket - p .size)) (p .longest) ≤ p .longest
-    at true = least-of (p .longest) (p .datapacket - p .size)
-    at false = omega arith
+pub limit-small : (p : Plan) → limitOf p ≤ p .longest
+limit-small p = picked (ltb (p .layout) 2) {x = min (p .longest) (p .datapacket - p .size)} refl (omega arith) (omega arith)
 
 -- the lengths before i are taken: their sum, and the place behind them
 pub record Sizing (p : Plan) (q : ℕ) (ns : List ℕ) (a : At) (sum i : ℕ) : Type 0 where
+  pub sizable : Sizable p q ns
   pub few : i ≤ length ns
   pub index : misfitAt p (first q) ns ≡ i + misfitAt p a (drop i ns)
   pub reach : reach p (first q) ns ≡ reach p a (drop i ns)
@@ -36,12 +31,12 @@ pub record Sizing (p : Plan) (q : ℕ) (ns : List ℕ) (a : At) (sum i : ℕ) : 
   pub small : sum ≤ i * 65536
   pub near : a .q ≤ 4 + i * 66600
   pub end : a .end ≤ a .q + p .datapacket
-  pub inside : p .layout ≡ 3 → a .q ≤ 1024
 
-module _ {l z g : ℕ} {p : Plan} {q : ℕ} {ns : List ℕ} (k : Sizable l z g p q ns) where
-  pub sizing : Sizing p q ns (first q) 0 0
-  sizing =
+module _ {p : Plan} {q : ℕ} {ns : List ℕ} where
+  pub sizing : Sizable p q ns → Sizing p q ns (first q) 0 0
+  sizing k =
       record {
+        sizable = k;
         few = omega arith;
         index = omega arith;
         reach = refl;
@@ -49,10 +44,12 @@ module _ {l z g : ℕ} {p : Plan} {q : ℕ} {ns : List ℕ} (k : Sizable l z g p
         small = omega arith;
         near = omega (arith, k .near);
         end = omega arith;
-        inside = λ e. omega (arith, k .near);
       }
 
   module _ {a : At} {sum i : ℕ} (s : Sizing p q ns a sum i) where
+    abbrev k : Sizable p q ns
+    k = s .sizable
+
     pub size-done : length ns ≤ i → SizedAs p q ns (record { taken = i; sum = sum; behind = a })
     unfolding misfitAt reach
     size-done h =
@@ -62,64 +59,47 @@ module _ {l z g : ℕ} {p : Plan} {q : ℕ} {ns : List ℕ} (k : Sizable l z g p
         record { taken = omega arith; few = s .few; all = λ _. record { sum = omega arith; behind = sym (s .reach ∙ rw none) } }
 
     module _ (h : i < length ns) {n : ℕ} (e : n ≡ getD ns i 0) where
-      stops : misfit p a n ≡ true → SizedAs p q ns (record { taken = i; sum = sum; behind = a })
+      pub size-stops : misfit p a n ≡ true → SizedAs p q ns (record { taken = i; sum = sum; behind = a })
       unfolding misfitAt
-      stops f =
+      size-stops f =
           let m : misfitAt p (first q) ns ≡ i + 0 = s .index ∙ rw (here ns i h e, f) in
           record { taken = omega arith; few = s .few; all = λ x. absurd (omega arith) }
 
       module _ {limit : ℕ} (v : limit ≡ limitOf p) where
         pub size-long : eqb n 0 || ltb limit n ≡ true → SizedAs p q ns (record { taken = i; sum = sum; behind = a })
-        size-long f = let x : eqb n 0 || ltb (limitOf p) n ≡ true = rw v at f in stops (rw x)
+        size-long f = let x : eqb n 0 || ltb (limitOf p) n ≡ true = rw v at f in size-stops (rw x)
 
         module _ (f : eqb n 0 || ltb limit n ≡ false) where
           pub short : n < 65536
           short =
               let x : ltb limit n ≡ false = or-right (eqb n 0) (ltb limit n) f in
-              omega (arith, ltb-false limit n x, limit-small (k .formed), k .formed .longest-most)
+              omega (arith, ltb-false limit n x, limit-small p, k .formed .longest-most)
 
-          pub placing : Placing l z g (p .datapacket) a n
-          placing =
-              let r = k .formed in
-              let c = k .alike in
-              record {
-                aligned = rw (c .align) (r .aligned);
-                size-most = omega (arith, c .size, r .size-most);
-                cut = omega (arith, r .cut-least);
-                short = r .cut-most;
-                small = short;
-                near = omega (arith, s .near, k .few);
-                end = s .end;
-                inside = λ x. s .inside (sym (c .layout) ∙ x);
-              }
+          pub placing : Placing p a n
+          placing = record { formed = k .formed; small = short; near = omega (arith, s .near, k .few); end = s .end }
 
-          module _ {d : Spot} (x : Placed l z g (p .datapacket) a n d) where
-            there : d ≡ spot p a n
-            there = let c = k .alike in x .is ∙ rw (c .layout, c .size, c .align)
+          module _ {d : Spot} (x : Placed p a n d) where
+            test : {b : Bool} → eqb (p .layout) 3 && ltb (p .datapacket) (d .next .q) ≡ b → misfit p a n ≡ b
+            test y = let w : eqb n 0 || ltb (limitOf p) n ≡ false = rw v at f in rw w (rw (x .is) at y)
 
-            test : {b : Bool} → eqb l 3 && ltb (p .datapacket) (d .next .q) ≡ b → misfit p a n ≡ b
-            test y =
-                let c = k .alike in
-                let w : eqb n 0 || ltb (limitOf p) n ≡ false = rw v at f in
-                rw w (rw (c .layout, there) at y)
+            pub size-past : eqb (p .layout) 3 && ltb (p .datapacket) (d .next .q) ≡ true
+                → SizedAs p q ns (record { taken = i; sum = sum; behind = a })
+            size-past y = size-stops (test y)
 
-            pub size-past : eqb l 3 && ltb (p .datapacket) (d .next .q) ≡ true → SizedAs p q ns (record { taken = i; sum = sum; behind = a })
-            size-past y = stops (test y)
-
-            pub size-next : eqb l 3 && ltb (p .datapacket) (d .next .q) ≡ false → Sizing p q ns (d .next) (sum + n) (i + 1)
+            pub size-next : eqb (p .layout) 3 && ltb (p .datapacket) (d .next .q) ≡ false → Sizing p q ns (d .next) (sum + n) (i + 1)
             unfolding misfitAt reach
             size-next y =
                 let m : misfitAt p (first q) ns ≡ i + suc (misfitAt p (spot p a n .next) (drop (i + 1) ns)) = s .index ∙ rw (here ns i h e, test y) in
                 let t : sumOf ns ≡ sum + (n + sumOf (drop (i + 1) ns)) = s .total ∙ rw (here ns i h e) in
-                let j : d .next ≡ spot p a n .next = ap (λ w. w .next) there in
-                let c = k .alike in
+                let j : d .next ≡ spot p a n .next = ap (λ w. w .next) (x .is) in
+                let z = k .formed .sized in
                 record {
+                  sizable = k;
                   few = omega arith;
                   index = rw j (omega arith);
                   reach = s .reach ∙ rw (here ns i h e, j);
                   total = omega arith;
                   small = omega (arith, s .small, short);
-                  near = omega (arith, s .near, x .start, x .near, short, k .formed .cut-most, c .size, k .formed .size-most);
+                  near = omega (arith, s .near, x .start, x .near, short, z .cut-most, z .size-most);
                   end = x .end;
-                  inside = λ w. omega (arith, k .formed .cut-most, ltb-false (p .datapacket) (d .next .q) (rw (c .layout ∙ w) at y));
                 }

@@ -7,72 +7,67 @@ use mathlib.Core.List.{List, _++_}
 use lib.ListN.{length, replicate}
 use lib.Dec.{eqb, leb}
 use Rattle.layout.specs.Field.{bytes}
-use Rattle.layout.specs.Multiple.{Aligned}
+use Rattle.plan.specs.declared.Plan.{Plan}
 use Rattle.plan.specs.Place.{rests}
-use Rattle.writing.specs.Places.{tailOf, wholeOf}
+use Rattle.writing.specs.Places.{wholeOf, Formed}
 
 -- a rest of n bytes: free, but for a zero LEN where data packets may end with a rest and a header fits
-unfoldable pub restBytes : (layout lenwidth size free n : ℕ) → List ℕ
-restBytes layout lenwidth size free n =
-    cond (rests layout && leb size n) (bytes lenwidth 0 ++ replicate (n - lenwidth) free) (replicate n free)
+unfoldable pub restBytes : Plan → (free n : ℕ) → List ℕ
+restBytes p free n = cond (rests p && leb (p .size) n) (bytes (p .lenwidth) 0 ++ replicate (n - p .lenwidth) free) (replicate n free)
 
 -- the header of a packet of n bytes
-abbrev pub headBytes : (lenwidth ctrwidth size free c n : ℕ) → List ℕ
-headBytes lenwidth ctrwidth size free c n =
-    bytes lenwidth n ++ (bytes ctrwidth c ++ replicate (size - lenwidth - ctrwidth) free)
+abbrev pub headBytes : Plan → (free c n : ℕ) → List ℕ
+headBytes p free c n =
+    bytes (p .lenwidth) n ++ (bytes (p .ctrwidth) c ++ replicate (p .size - p .lenwidth - p .ctrwidth) free)
 
 -- header, packet and tail
-abbrev pub messageBytes : (layout lenwidth ctrwidth size align free c : ℕ) → List ℕ → List ℕ
-messageBytes layout lenwidth ctrwidth size align free c b =
-    headBytes lenwidth ctrwidth size free c (length b) ++ (b ++ replicate (tailOf layout align (size + length b)) free)
+abbrev pub messageBytes : Plan → (free c : ℕ) → List ℕ → List ℕ
+messageBytes p free c b = headBytes p free c (length b) ++ (b ++ replicate (wholeOf p (length b) - (p .size + length b)) free)
 
 -- as many last bytes of a message as its tail can have
-abbrev pub lastOf : (layout align : ℕ) → ℕ
-lastOf layout align = cond (eqb layout 3) 0 (cond (leb 4 align) align 1)
+abbrev pub lastOf : Plan → ℕ
+lastOf p = cond (eqb (p .layout) 3) 0 (cond (leb 4 (p .align)) (p .align) 1)
 
 ---- What putting them asks -----------------------------------------------------------------------------------------------------
 
-pub record Resting (lenwidth size : ℕ) (out : List ℕ) (at n : ℕ) : Type 0 where
-  pub narrow : lenwidth ≤ 2
-  pub inside : lenwidth ≤ size
+pub record Resting (p : Plan) (out : List ℕ) (at n : ℕ) : Type 0 where
+  pub formed : Formed p
   pub room : at + n ≤ length out
+
+-- n bytes before a message: in a frame the few that align it, in a stream less than a header has
+pub record Skipping (p : Plan) (out : List ℕ) (at n : ℕ) : Type 0 where
+  pub resting : Resting p out at n
+  pub few : 1 < p .layout → n ≤ 8
+  pub stream : p .layout ≡ 2 → n < p .size
 
 pub record Few (out : List ℕ) (at n : ℕ) : Type 0 where
   pub few : n ≤ 2
   pub room : at + n ≤ length out
 
--- a header's fields lie inside it, with at most two free bytes behind them
-pub record Header (lenwidth ctrwidth size : ℕ) : Type 0 where
-  pub len-narrow : lenwidth ≤ 2
-  pub ctr-narrow : ctrwidth ≤ 2
-  pub inside : lenwidth + ctrwidth ≤ size
-  pub few : size ≤ lenwidth + ctrwidth + 2
-  pub some : 1 ≤ size
-  pub most : size ≤ 4
-
 -- a header has room
-pub record Headed (lenwidth ctrwidth size : ℕ) (out : List ℕ) : Type 0 where
-  pub header : Header lenwidth ctrwidth size
-  pub room : size ≤ length out
+pub record Headed (p : Plan) (out : List ℕ) : Type 0 where
+  pub len-narrow : p .lenwidth ≤ 2
+  pub ctr-narrow : p .ctrwidth ≤ 2
+  pub inside : p .lenwidth + p .ctrwidth ≤ p .size
+  pub free-most : p .size ≤ p .lenwidth + p .ctrwidth + 2
+  pub room : p .size ≤ length out
 
 -- a message that ends there
-pub record Tailing (layout align : ℕ) (out : List ℕ) (end : ℕ) : Type 0 where
-  pub aligned : Aligned align
+pub record Tailing (p : Plan) (out : List ℕ) (end : ℕ) : Type 0 where
+  pub formed : Formed p
   pub some : 1 ≤ end
-  pub reached : (layout ≡ 3 → ⊥) → align ≤ end
+  pub reached : (p .layout ≡ 3 → ⊥) → p .align ≤ end
   pub room : end ≤ length out
 
 -- a packet whose message fits into the output
-pub record Fitting (layout lenwidth ctrwidth size align : ℕ) (out packet : List ℕ) : Type 0 where
-  pub header : Header lenwidth ctrwidth size
-  pub aligned : Aligned align
+pub record Fitting (p : Plan) (out packet : List ℕ) : Type 0 where
+  pub formed : Formed p
   pub small : length packet < 65536
-  pub room : wholeOf layout size align (length packet) ≤ length out
+  pub room : wholeOf p (length packet) ≤ length out
 
 -- .. from a place on, behind the bytes passed over from q on
-pub record Passing (layout lenwidth ctrwidth size align : ℕ) (out : List ℕ) (q from : ℕ) (packet : List ℕ) : Type 0 where
-  pub header : Header lenwidth ctrwidth size
-  pub aligned : Aligned align
-  pub small : length packet < 65536
+pub record Passing (p : Plan) (out : List ℕ) (q from : ℕ) (packet : List ℕ) : Type 0 where
+  pub skipping : Skipping p out q (from - q)
   pub on : q ≤ from
-  pub room : from + wholeOf layout size align (length packet) ≤ length out
+  pub small : length packet < 65536
+  pub room : from + wholeOf p (length packet) ≤ length out

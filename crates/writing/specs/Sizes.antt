@@ -1,45 +1,16 @@
 -- Sizing a list of messages: the first length that does not fit, and the place behind all of them.
-use Prim.Native.Nat.{ℕ, suc, _+_, _-_, _%_, _<_, _≤_, min}
+use Prim.Native.Nat.{ℕ, suc, _-_, _≤_, min}
 use mathlib.Core.Path.{_≡_}
 use mathlib.Core.Bool.{Bool, cond, _&&_, _||_}
 use mathlib.Core.List.{List, [], _∷_}
 use lib.ListN.{length}
 use lib.Dec.{eqb, ltb}
-use Rattle.layout.specs.Multiple.{Aligned}
 use Rattle.packet.specs.declared.At.{At}
 use Rattle.packet.specs.Limit.{mostLengths}
 use Rattle.packet.specs.Packets.{sum as sumOf}
 use Rattle.plan.specs.declared.Plan.{Plan}
 use Rattle.writing.specs.declared.Sized.{Sized}
-use Rattle.writing.specs.declared.Spot.{Spot}
-use Rattle.writing.specs.Places.{spotAt}
-
--- what the loops ask of a plan
-pub record Formed (p : Plan) : Type 0 where
-  pub aligned : Aligned (p .align)
-  pub size-least : 1 ≤ p .size
-  pub size-most : p .size ≤ 4
-  pub cut-least : 8 ≤ p .datapacket
-  pub cut-most : p .datapacket ≤ 1024
-  pub longest-most : p .longest < 65536
-  pub layout-most : p .layout ≤ 3
-  -- an alignment divides a data packet
-  pub eights : p .layout < 2 → p .datapacket % 8 ≡ 0
-
--- a case said by literals is the plan's
-pub record Alike (l z g : ℕ) (p : Plan) : Type 0 where
-  pub layout : l ≡ p .layout
-  pub size : z ≡ p .size
-  pub align : g ≡ p .align
-
-pub record Limited (l z : ℕ) (p : Plan) : Type 0 where
-  pub formed : Formed p
-  pub layout : l ≡ p .layout
-  pub size : z ≡ p .size
-
--- a message with a packet of n bytes, from a place on
-abbrev pub spot : Plan → At → ℕ → Spot
-spot p a n = spotAt (p .layout) (p .size) (p .align) (p .datapacket) a n
+use Rattle.writing.specs.Places.{Formed, spot}
 
 -- the longest packet that fits by its length: in single and multiple packing its message fits a data packet
 abbrev pub limitOf : Plan → ℕ
@@ -65,8 +36,7 @@ reach p a (n ∷ ns) = reach p (spot p a n .next) ns
 abbrev pub first : ℕ → At
 first q = record { q = q; end = 0 }
 
-pub record Sizable (layout size align : ℕ) (p : Plan) (q : ℕ) (ns : List ℕ) : Type 0 where
-  pub alike : Alike layout size align p
+pub record Sizable (p : Plan) (q : ℕ) (ns : List ℕ) : Type 0 where
   pub formed : Formed p
   pub few : length ns ≤ mostLengths
   pub near : q ≤ 4

@@ -6,20 +6,14 @@ use Rattle.flexray_reader.proofs.fill.Statement.{statement}
 use Rattle.flexray_reader.proofs.fill.Tie as tie
 
 first-put : tie.Need-put-requires
-first-put c κs =
-    let f = c .before in
-    let h = f .before .before .before .pre in
-    let (z, l) = laws.has-first h (f .first .ensures) in
-    laws.putting (h .given) (f .first .ensures) z l h
+first-put c κs = let f = c .before in laws.putting (f .before .before .before .pre) (f .first .ensures)
 
 behind-it : tie.Need-fill-behind-requires
 behind-it c κs =
     let k = c .before in
     let u = k .before .before .before .before in
     let f = u .before .before in
-    let h = f .before .before .before .pre in
-    let (z, l) = laws.has-first h (f .first .ensures) in
-    laws.following (h .given) (f .first .ensures) z l h (u .put .ensures) refl (k .further .ensures)
+    laws.following (f .before .before .before .pre) (f .first .ensures) (u .put .ensures) refl (k .further .ensures)
 
 given : tie.Need-returns
 given c =
@@ -27,9 +21,7 @@ given c =
     let k = b .before .before in
     let u = k .before .before .before .before in
     let f = u .before .before in
-    let h = f .before .before .before .pre in
-    let (z, l) = laws.has-first h (f .first .ensures) in
-    laws.framed (h .given) (f .first .ensures) z l h (u .put .ensures) (k .further .ensures) (b .fill-behind .ensures)
+    laws.framed (f .before .before .before .pre) (f .first .ensures) (u .put .ensures) (k .further .ensures) (b .fill-behind .ensures)
 
 pub fill-spec : {M : Type 1} → statement M
 fill-spec =

@@ -3,7 +3,7 @@ use mathlib.Core.Path.{sym, _∙_}
 use borrow.Author.Needs.{needs}
 use borrow.Author.Tests.{ltb-true, ltb-false}
 use Rattle.rows.proofs.AnswerLaws.{is-crowded, is-given}
-use Rattle.flexray_reader.proofs.ReadsLaws.{fillable, filled-as}
+use Rattle.flexray_reader.proofs.ReadsLaws.{fillable}
 use Rattle.flexray_reader.proofs.give.Statement.{statement}
 use Rattle.flexray_reader.proofs.give.Tie as tie
 
@@ -17,17 +17,14 @@ no-room c =
 fits : tie.Need-fill-requires
 fits c κs =
     let f = c .before .before in
-    let g = f .before .before .before .pre in
-    let l = ltb-false _ _ (sym (f .few .ensures) ∙ c .before .if1 .left) in
-    fillable g l
+    fillable (f .before .before .before .pre) (ltb-false _ _ (sym (f .few .ensures) ∙ c .before .if1 .left))
 
 given : tie.Need-returns-2
 given c =
     let w = c .before .before in
     let f = w .before .before .before in
     let l = ltb-false _ _ (sym (f .few .ensures) ∙ w .before .before .if1 .left) in
-    let g = f .before .before .before .pre in
-    is-given _ _ _ (g .judged) l (filled-as g _ (w .fill .ensures))
+    is-given _ _ _ (f .before .before .before .pre .judged) l (w .fill .ensures)
 
 pub give-spec : {M : Type 1} → statement M
 give-spec =

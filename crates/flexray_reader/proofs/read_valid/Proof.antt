@@ -8,9 +8,8 @@ use Rattle.flexray_reader.proofs.read_valid.Tie as tie
 counted : tie.Need-give-requires
 counted c κs =
     let m = c .before .before in
-    let j = m .before .before in
-    let h = j .before .before .before .pre in
-    record { ready = h .ready; sane = h .sane; judged = rw (m .k .given .1) at (j .judge-frame .ensures) }
+    let h = rw (m .k .given .1) at (m .before .before .judge-frame .ensures) in
+    search needs
 
 place-small : tie.Need-refuse-requires
 place-small c κs =

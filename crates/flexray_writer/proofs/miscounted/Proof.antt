@@ -5,7 +5,10 @@ use Rattle.flexray_writer.proofs.miscounted.Tie as tie
 
 returns : tie.Need-returns
 unfolding miscounted
-returns c = rw (c .either .ensures, c .before .both .ensures, c .before .before .before .before .pre .lenwidth)
+returns c =
+    let e = c .before in
+    let b = e .before in
+    rw (c .either2 .ensures, e .either .ensures, b .both .ensures, b .before .before .before .pre .lenwidth)
 
 pub miscounted-spec : {M : Type 1} → statement M
-miscounted-spec = tie.close (tie.spec (λ c κs. search needs) (λ c κs. search needs) returns)
+miscounted-spec = tie.close (tie.spec (λ c κs. search needs) (λ c κs. search needs) (λ c κs. search needs) returns)

@@ -1,6 +1,6 @@
 -- The sizes decide. In each answer z is the place behind `size`, t a test, s the start.
 use native.Mathlib.Omega.{arith}
-use mathlib.Core.Path.{sym, ap, _∙_}
+use mathlib.Core.Path.{_∙_}
 use borrow.Author.Needs.{needs}
 use Rattle.packet.proofs.AnswerLaws.{gives-so}
 use Rattle.lengths.proofs.LengthsLaws.{differs}
@@ -9,16 +9,16 @@ use Rattle.flexray_writer.proofs.write_sized.Statement.{statement}
 use Rattle.flexray_writer.proofs.write_sized.Tie as tie
 
 sizes : tie.Need-size-requires
-sizes c κs = let f = c .before in sizing (f .before .before .before .before .pre) (f .further .ensures)
+sizes c κs = sizing (c .before .before .before .before .pre) (c .further .ensures)
 
 misfit : tie.Need-returns
 misfit c =
     let r = c .before .before in
     let t = r .before .before in
     let z = t .before .before in
-    let f = z .before .before in
+    let f = z .before in
     let s = f .before .before .before .before in
-    gives-so (unfit _ _ _ (s .args .fill) _ (s .pre) (rw (f .further .ensures) at (z .size .ensures)) (t .if1 .taken)) (r .refuse-misfit .ensures)
+    gives-so (unfit (s .args .b) _ _ _ (s .pre) (rw (f .further .ensures) at (z .size .ensures)) (t .if1 .taken)) (r .refuse-misfit .ensures)
 
 unlike : tie.Need-returns-2
 unlike c =
@@ -26,12 +26,12 @@ unlike c =
     let t = r .before .before in
     let u = t .before .before in
     let z = u .before .before in
-    let f = z .before .before in
+    let f = z .before in
     let s = f .before .before .before .before in
     let m = rw (f .further .ensures) at (z .size .ensures) in
     let w = m .all (omega (arith, m .few, u .if1 .left)) in
     gives-so
-    (unmatched _ _ _ (s .args .fill) _ (s .pre .ready) (s .pre .held)
+    (unmatched (s .args .b) _ _ _ (s .pre .begun .ready) (s .pre .held)
     (rw (differs (s .args .lengths .now) (s .args .packets .now) (λ e. t .if2 .taken (w .sum ∙ e))))) (r .refuse .ensures)
 
 fits : tie.Need-write-fitted-requires
@@ -39,13 +39,12 @@ fits c κs =
     let t = c .before in
     let u = t .before .before in
     let z = u .before .before in
-    let f = z .before .before in
+    let f = z .before in
     let s = f .before .before .before .before in
     fitted (s .pre) (rw (f .further .ensures) at (z .size .ensures)) (omega (arith, u .if1 .left)) (t .if2 .left)
 
 pub write-sized-spec : {M : Type 1} → statement M
 write-sized-spec =
     tie.close
-    (tie.spec (λ c κs. search needs) (λ c. search needs) sizes (λ c κs. search needs) (λ c. search needs) misfit (λ c κs. search needs)
-    (λ c. search needs) unlike fits (λ c. search needs)
-    (λ c. search needs))
+    (tie.spec (λ c κs. search needs) sizes (λ c κs. search needs) (λ c. search needs) misfit (λ c κs. search needs) (λ c. search needs) unlike
+    fits (λ c. search needs) (λ c. search needs))

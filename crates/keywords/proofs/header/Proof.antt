@@ -1,7 +1,6 @@
 -- Line by line.
-use borrow.Author.Needs.{needs}
 use Rattle.keywords.specs.Tables.{header}
-use Rattle.keywords.proofs.SayingLaws.{silent, lined}
+use Rattle.keywords.proofs.SayingLaws.{sayings, silent, lined}
 use Rattle.keywords.proofs.header.Statement.{statement}
 use Rattle.keywords.proofs.header.Tie as tie
 
@@ -18,11 +17,11 @@ returns c =
     (lined (l4 .line4 .ensures)
     (lined (l3 .line3 .ensures)
     (lined (l2 .line2 .ensures)
-    (lined (l1 .line .ensures) silent))))) .is
+    (lined (l1 .line .ensures) silent)))))
 
 pub header-spec : {M : Type 1} → statement M
 header-spec =
     tie.close
-    (tie.spec (λ c. search needs) (λ c κs. search needs) (λ c. search needs) (λ c κs. search needs) (λ c. search needs)
-    (λ c κs. search needs) (λ c. search needs) (λ c κs. search needs) (λ c. search needs) (λ c κs. search needs)
-    (λ c. search needs) (λ c κs. search needs) returns)
+    (tie.spec (λ c. search sayings) (λ c κs. search sayings) (λ c. search sayings) (λ c κs. search sayings) (λ c. search sayings)
+    (λ c κs. search sayings) (λ c. search sayings) (λ c κs. search sayings) (λ c. search sayings) (λ c κs. search sayings)
+    (λ c. search sayings) (λ c κs. search sayings) returns)

@@ -1,18 +1,18 @@
 use native.Mathlib.Omega.{arith}
 use native.Mathlib.Nat.{mod-lt}
 use borrow.Author.Needs.{needs}
-use borrow.Author.Tests.{lt-ltb, le-ltb}
+use Rattle.plan.proofs.PlaceLaws.{stream-near, stream-far}
 use Rattle.plan.proofs.streamed.Statement.{statement}
 use Rattle.plan.proofs.streamed.Tie as tie
 
 near : tie.Need-returns
-near c = rw (c .before .pick .ensures) (rw (lt-ltb _ _ (rw (c .before .pick .ensures) at (c .if1 .taken))))
+near c = stream-near (c .before .before .pre) (c .before .pick .ensures) (c .if1 .taken)
 
 less : tie.Need-sub-result
 less c = let s = c .before .before .pre in omega (arith, mod-lt (c .before .before .args .q) (s .cut))
 
 far : tie.Need-returns-2
-far c = rw (le-ltb _ _ (rw (c .before .pick .ensures) at (c .if1 .left)))
+far c = stream-far (c .before .before .pre) (c .before .pick .ensures) (c .if1 .left)
 
 pub streamed-spec : {M : Type 1} → statement M
 streamed-spec = tie.close (tie.spec (λ c. search needs) (λ c κs. search needs) near (λ c. search needs) less (λ c. search needs) far)

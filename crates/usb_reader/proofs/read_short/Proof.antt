@@ -9,8 +9,8 @@ use Rattle.usb_reader.proofs.read_short.Tie as tie
 counted : tie.Need-give-requires
 counted c κs =
     let m = c .before .before in
-    let j = m .before .before in
-    record { readable = j .before .before .before .pre; judged = rw (m .k .given .1) at (j .judge .ensures) }
+    let h = rw (m .k .given .1) at (m .before .before .judge .ensures) in
+    search needs
 
 place-small : tie.Need-refuse-requires
 place-small c κs =
@@ -27,5 +27,5 @@ refused c =
 pub read-short-spec : {M : Type 1} → statement M
 read-short-spec =
     tie.close
-    (tie.spec (λ c κs. begun (c .before .before .pre)) (λ c. search needs) counted (λ c. search needs) place-small (λ c. search needs) (λ c. search needs)
-    (λ c. search needs) refused)
+    (tie.spec (λ c κs. begun (c .before .before .pre)) (λ c. search needs) counted (λ c. search needs) place-small (λ c. search needs)
+    (λ c. search needs) (λ c. search needs) refused)

@@ -1,6 +1,5 @@
 -- In each answer v is the place behind `valid`, and b that behind the last test.
 use mathlib.Core.Path.{sym, _∙_}
-use native.Mathlib.Omega.{arith}
 use borrow.Author.Needs.{needs}
 use Rattle.packet.proofs.AnswerLaws.{gives-so}
 use Rattle.rows.proofs.CounterLaws.{sane}
@@ -11,11 +10,8 @@ use Rattle.usb_reader.proofs.read_sound.Tie as tie
 readable : tie.Need-read-short-requires
 readable c κs =
     let v = c .before .before .before in
-    record {
-      ready = v .before .before .before .pre;
-      small = omega arith;
-      sane = sane (sym (v .valid .ensures) ∙ c .before .before .if1 .taken);
-    }
+    let s = sane (sym (v .valid .ensures) ∙ c .before .before .if1 .taken) in
+    search needs
 
 short : tie.Need-returns
 short c =

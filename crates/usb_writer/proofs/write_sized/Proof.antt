@@ -1,6 +1,6 @@
 -- The sizes decide. In each answer z is the place behind `size`, t a test, s the start.
 use native.Mathlib.Omega.{arith}
-use mathlib.Core.Path.{sym, ap, _∙_}
+use mathlib.Core.Path.{_∙_}
 use borrow.Author.Needs.{needs}
 use Rattle.packet.proofs.AnswerLaws.{gives-so}
 use Rattle.lengths.proofs.LengthsLaws.{differs}

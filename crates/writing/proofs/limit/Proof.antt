@@ -4,13 +4,10 @@ use Rattle.writing.proofs.limit.Statement.{statement}
 use Rattle.writing.proofs.limit.Tie as tie
 
 packed : tie.Need-returns
-packed c =
-    let t = c .before .before in
-    let k = t .before .pre in
-    rw (← k .layout, ← k .size, lt-ltb _ 2 (t .if1 .taken)) (c .least .ensures)
+packed c = rw (lt-ltb _ 2 (c .before .before .if1 .taken)) (c .least .ensures)
 
 other : tie.Need-returns-2
-other c = let k = c .before .pre in rw (← k .layout, le-ltb _ 2 (c .if1 .left))
+other c = rw (le-ltb _ 2 (c .if1 .left))
 
 pub limit-spec : {M : Type 1} → statement M
 limit-spec = tie.close (tie.spec (λ c. search needs) (λ c κs. search needs) packed other)

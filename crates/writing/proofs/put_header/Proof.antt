@@ -6,12 +6,12 @@ use Rattle.writing.proofs.put_header.Tie as tie
 returns : tie.Need-returns
 returns c =
     let f = c .before .before in
-    let t = f .before .before .before .before in
+    let t = f .before .before .before .before .before .before .before in
     let w = t .before in
     let l = w .before .before .before .before in
     let a = l .before .before .before .args in
-    head-put (a .lenwidth) (a .ctrwidth) (a .size) (a .out .now) (a .n) (a .ctr) (a .free) (w .wide32 .ensures .0) (l .put-field .ensures)
-    (t .put-field2 .ensures) (f .put-free .ensures)
+    head-put (a .p) (a .out .now) (a .n) (a .ctr) (a .free) (w .wide32 .ensures .0) (l .put-field .ensures) (t .put-field2 .ensures)
+    (f .put-free .ensures)
 
 pub put-header-spec : {M : Type 1} → statement M
 put-header-spec =

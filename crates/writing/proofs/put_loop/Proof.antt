@@ -1,5 +1,4 @@
--- What is left of the list, written from here on, comes to the whole. In each answer d is the place behind `place`, w that behind `wide32`, t the
--- loop's test, s the start.
+-- The bytes, and the counter. In each answer d is the place behind `place`, w that behind `wide32`, t the loop's test, i the loop's invariant.
 use Prim.Native.Nat.{_-_}
 use native.Mathlib.Omega.{arith}
 use mathlib.Core.Path.{refl}
@@ -11,26 +10,23 @@ use Rattle.writing.proofs.put_loop.Statement.{statement}
 use Rattle.writing.proofs.put_loop.Tie as tie
 
 abbrev Inv-loop : tie.InvT-loop
-Inv-loop layout lenwidth ctrwidth size align p b packets lengths out₀ a₀ c₀ from₀ i₀ out a c from i =
+Inv-loop layout lenwidth ctrwidth size align b packets lengths out₀ p a₀ c₀ from₀ i₀ out a c from i =
     Writing p b packets lengths out₀ out a c from i
 
 abbrev μ-loop : tie.MeasureT-loop
-μ-loop layout lenwidth ctrwidth size align p b packets lengths out₀ a₀ c₀ from₀ i₀ out a c from i = length lengths - i
+μ-loop layout lenwidth ctrwidth size align b packets lengths out₀ p a₀ c₀ from₀ i₀ out a c from i = length lengths - i
 
 begins : tie.Need-loop-holds Inv-loop μ-loop
-begins c = writing (c .before .before .before .pre .1)
+begins c = writing (rw (c .cased .ensures) (c .before .before .before .before .pre .1))
 
 to-fits : tie.Need-add-to Inv-loop μ-loop
 to-fits c =
     let t = c .before .before in
     let h = inside (t .before .loop .inv .taking) (t .loop-test .taken) (c .wide32 .ensures .0) in
-    search needs
+    record { fits = omega (arith, t .before .before .before .before .before .before .good) }
 
 places : tie.Need-place-requires Inv-loop μ-loop
-places c κs =
-    let t = c .before .before in
-    let s = t .before .before .before .before .before in
-    placing (s .pre .1) (t .before .loop .inv) (s .pre .0) (t .loop-test .taken) (c .wide32 .ensures .0)
+places c κs = let t = c .before .before in placing (t .before .loop .inv) (t .loop-test .taken) (c .wide32 .ensures .0)
 
 ends-inside : tie.Need-part-part-end Inv-loop μ-loop
 ends-inside c =
@@ -44,21 +40,17 @@ stands c κs =
     let d = c .before .before in
     let w = d .before in
     let t = w .before .before in
-    let s = t .before .before .before .before .before in
-    passing (s .pre .1) (t .before .loop .inv) (s .pre .0) (t .loop-test .taken) (w .wide32 .ensures .0) (d .place .ensures)
-    (part-is (s .args .packets .now) (t .before .loop .from) (w .wide32 .result))
+    let i = t .before in
+    passing (i .loop .inv) (t .loop-test .taken) (w .wide32 .ensures .0) (d .place .ensures)
+    (part-is (i .before .before .before .before .before .args .packets .now) (i .loop .from) (w .wide32 .result))
 
 says : tie.Need-after-requires Inv-loop μ-loop
-says c κs =
-    let t = c .before .before .before .before .before .before .before .before in
-    let s = t .before .before .before .before .before in
-    said (s .pre .1) (t .before .loop .inv) (s .pre .0)
+says c κs = said (c .before .before .before .before .before .before .before .before .before .loop .inv)
 
 counts : tie.Need-add-i Inv-loop μ-loop
 counts c =
     let t = c .before .before .before .before .before .before .before .before .before .before in
-    let s = t .before .before .before .before .before in
-    record { fits = omega (arith, t .loop-test .taken, s .pre .1 .few) }
+    record { fits = omega (arith, t .loop-test .taken, t .before .loop .inv .writable .few) }
 
 falls : tie.Need-loop-less Inv-loop μ-loop
 falls c =
@@ -72,15 +64,16 @@ again c =
     let d = o .before .before .before in
     let w = d .before in
     let t = w .before .before in
-    let s = t .before .before .before .before .before in
-    writing-next (s .pre .1) (t .before .loop .inv) (s .pre .0) (t .loop-test .taken) (w .wide32 .ensures .0) (d .place .ensures)
-    (part-is (s .args .packets .now) (t .before .loop .from) (w .wide32 .result)) refl (o .put-one .ensures) (r .after .ensures)
+    let i = t .before in
+    writing-next (i .loop .inv) (t .loop-test .taken) (w .wide32 .ensures .0) (d .place .ensures)
+    (part-is (i .before .before .before .before .before .args .packets .now) (i .loop .from) (w .wide32 .result)) refl (o .put-one .ensures)
+    (r .after .ensures)
 
 ends : tie.Need-returns Inv-loop μ-loop
-ends c = writing-done (c .before .before .before .before .before .pre .1) (c .before .loop .inv) (omega arith)
+ends c = let i = c .before in rw (i .before .cased .ensures) at (writing-done (i .loop .inv) (omega arith))
 
 pub put-loop-spec : {M : Type 1} → statement M
 put-loop-spec =
     tie.close
-    (tie.spec Inv-loop μ-loop begins (λ c. search needs) (λ c. search needs) (λ c κs. search needs) to-fits places (λ c. search needs)
-    (λ c. search needs) ends-inside stands says counts falls again (λ c. search needs) ends)
+    (tie.spec Inv-loop μ-loop (λ c κs. search needs) begins (λ c. search needs) (λ c. search needs) (λ c κs. search needs) to-fits places
+    (λ c. search needs) (λ c. search needs) ends-inside stands says counts falls again (λ c. search needs) ends)

@@ -8,7 +8,7 @@ returns c =
     let m = c .before .before in
     let r = m .before .before .before .before in
     let s = r .before .before .before .before in
-    one-put (s .pre) (s .args .free) _ (r .put-rest .ensures) (m .put-message .ensures)
+    one-put (s .pre) (s .args .free) _ (r .put-passed .ensures) (m .put-message .ensures)
 
 pub put-one-spec : {M : Type 1} → statement M
 put-one-spec =

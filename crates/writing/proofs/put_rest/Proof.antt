@@ -1,7 +1,6 @@
+-- In each answer b is the place behind `both`, s the start.
 use native.Mathlib.Omega.{arith}
-use mathlib.Core.Path.{sym, ap, _∙_}
-use mathlib.Core.Bool.{_&&_}
-use lib.Dec.{leb}
+use mathlib.Core.Path.{sym, _∙_}
 use borrow.Author.Needs.{needs}
 use Rattle.writing.proofs.PutLaws.{rest-none, rest-free, rest-zeroed, header-fits}
 use Rattle.writing.proofs.put_rest.Statement.{statement}
@@ -11,15 +10,15 @@ none : tie.Need-returns
 none c =
     let s = c .before .before in
     let a = s .args in
-    rest-none (a .layout) (s .pre .inside) (a .free) (a .n) (a .out .now) (a .at) (omega arith)
+    rest-none (s .pre .formed) (a .free) (a .n) (a .out .now) (a .at) (omega arith)
 
 room : tie.Need-put-field-requires
 room c κs =
     let b = c .before .before in
-    let s = b .before .before .before .before .before .before .before .before in
+    let s = b .before .before .before .before .before .before .before .before .before in
     let a = s .args in
-    let h = header-fits (a .layout) (s .pre .inside) (a .free) (a .n) (a .out .now) (a .at)
-    (ap (λ x. x && leb (a .size) (a .n)) (sym (b .before .rests .ensures)) ∙ sym (b .both .ensures) ∙ c .before .if2 .taken) in
+    let h = header-fits (s .pre .formed) (a .free) (a .n) (a .out .now) (a .at)
+    (rw (b .before .before .rests .ensures) at (sym (b .both .ensures) ∙ c .before .if2 .taken)) in
     search needs
 
 zeroed : tie.Need-returns-2
@@ -27,22 +26,22 @@ zeroed c =
     let u = c .before .before in
     let t = u .before .before in
     let b = t .before in
-    let f = b .before .before .before .before in
+    let f = b .before .before .before .before .before in
     let s = f .before .before .before .before in
     let a = s .args in
     u .put-field .ensures ∙ rw (f .set .ensures)
-    (rest-zeroed (a .layout) (s .pre .inside) (a .free) (a .n) (a .out .now) (a .at)
-    (ap (λ x. x && leb (a .size) (a .n)) (sym (b .before .rests .ensures)) ∙ sym (b .both .ensures) ∙ t .if2 .taken))
+    (rest-zeroed (s .pre .formed) (a .free) (a .n) (a .out .now) (a .at)
+    (rw (b .before .before .rests .ensures) at (sym (b .both .ensures) ∙ t .if2 .taken)))
 
 free : tie.Need-returns-3
 free c =
     let b = c .before in
-    let f = b .before .before .before .before in
+    let f = b .before .before .before .before .before in
     let s = f .before .before .before .before in
     let a = s .args in
     f .set .ensures
-    ∙ rest-free (a .layout) (s .pre .inside) (a .free) (a .n) (a .out .now) (a .at)
-    (ap (λ x. x && leb (a .size) (a .n)) (sym (b .before .rests .ensures)) ∙ sym (b .both .ensures) ∙ c .if2 .left)
+    ∙ rest-free (s .pre .formed) (a .free) (a .n) (a .out .now) (a .at)
+    (rw (b .before .before .rests .ensures) at (sym (b .both .ensures) ∙ c .if2 .left))
 
 pub put-rest-spec : {M : Type 1} → statement M
 put-rest-spec =
