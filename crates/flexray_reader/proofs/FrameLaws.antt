@@ -164,3 +164,5 @@ module _ {p : Plan} {t : List ℕ} {c : Counter} {k n : ℕ} (h : Fillable p t c
     framed i e =
         let x = first-before (p .direction) (p .ctrwidth) rows c (message t m) (reads (furtherOf p) t (behind t m)) in
         (rw i at e) ∙ sym (rw (h .walked, told (h .given) f some fits, u .rows, u .state) x)
+
+pub ruleset frames = (needs, first-is, empty, past, begun, judged-behind, putting, following, framed)

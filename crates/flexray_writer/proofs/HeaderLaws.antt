@@ -1,18 +1,22 @@
--- A frame's header, put field by field, is that of the definitions.
-use Prim.Native.Nat.{ℕ, _-_}
+-- A frame's header, put field by field, and the byte that evens the frame are those of the definitions.
+use Prim.Native.Nat.{ℕ, _+_, _-_, _%_}
 use native.Mathlib.Omega.{arith}
 use mathlib.Core.Path.{_≡_, refl, _∙_}
+use mathlib.Core.Bool.{Bool, cond, not, _&&_}
 use mathlib.Core.List.{List, []}
-use lib.ListN.{length, replicate, length-replicate}
+use lib.ListN.{length, set, replicate, length-replicate}
 use lib.Seq.{sets, length-sets}
+use lib.Dec.{eqb}
+use borrow.Author.Tests.{eq-eqb, ne-eqb}
 use Rattle.layout.specs.Field.{size, width, bytes, values, puts, Name.LEN, Name.CTR}
 use Rattle.layout.proofs.FieldLaws.{length-bytes}
 use Rattle.layout.proofs.TableLaws.{alike}
 use Rattle.store.proofs.StoreLaws.{at-front}
 use Rattle.plan.specs.declared.Plan.{Plan}
 use Rattle.flexray.specs.Setting.{headers, header}
-use Rattle.flexray_plan.specs.Plan.{setting}
-use Rattle.flexray_writer.specs.Writes.{headBytes, Leading}
+use Rattle.flexray.specs.Writing.{evening}
+use Rattle.flexray_plan.specs.Plan.{setting, Started}
+use Rattle.flexray_writer.specs.Writes.{headBytes, Leading, Evening}
 
 -- free bytes, and then the node, CTR and LEN
 abbrev stamped : (z lw cw node n ctr free : ℕ) → List ℕ
@@ -42,3 +46,15 @@ header-put {p} {out} l n ctr free {two = two} {three = three} f x y z v =
     let s : sets j (p .size - p .lenwidth) (bytes (p .lenwidth) n) ≡ headBytes (setting p) free ctr n =
     rw (k .size, k .lenwidth, k .ctrwidth) (header-stamped (p .header) (p .node) n ctr free) in
     v ∙ rw (e, ← s) (at-front (bytes (p .lenwidth) n) j out (p .size - p .lenwidth) (rw (long, length-bytes) (omega (arith, k .apart))))
+
+module _ {p : Plan} {out : List ℕ} {e : ℕ} (v : Evening p out e) (free : ℕ) where
+  pub even : e % 2 ≡ 0 → out ≡ sets out e (evening (setting p) free e)
+  unfolding evening
+  even h = rw (eq-eqb (e % 2) 0 h)
+
+  pub odd : (e % 2 ≡ 0 → ⊥) → {r x : ℕ} {z : Bool} → Started (p .align) e r → z ≡ (not (eqb (p .lenwidth) 0) && eqb r (e + 1))
+      → x ≡ cond z 0 free → set out e x ≡ sets out e (evening (setting p) free e)
+  unfolding evening
+  odd h s i j = rw (ne-eqb (e % 2) 0 h, j, i, s .is, v .ready .lenwidth)
+
+pub ruleset evenings = (even, odd)

@@ -10,7 +10,23 @@ use borrow.Author.Tests.{leb-true, eqb-true, ne-eqb}
 use Rattle.layout.proofs.TableLaws.{all, all-given}
 use Rattle.plan.specs.declared.Plan.{Plan}
 use Rattle.plan.specs.declared.Planned.the-variants as P
-use Rattle.plan.specs.Plan.{planned}
+use Rattle.plan.specs.Plan.{planned, Cased}
+
+-- literals that are the plan's own, in their places
+pub cased-is : {layout lenwidth ctrwidth size align : ℕ} {p : Plan} → Cased layout lenwidth ctrwidth size align p
+    → record {
+      layout = layout;
+      header = p .header;
+      align = align;
+      datapacket = p .datapacket;
+      longest = p .longest;
+      direction = p .direction;
+      node = p .node;
+      size = size;
+      lenwidth = lenwidth;
+      ctrwidth = ctrwidth;
+    } ≡ p
+cased-is k = rw (k .layout-is, k .lenwidth-is, k .ctrwidth-is, k .size-is, k .align-is)
 
 pub was-sound : (b : Bool) (whole : Plan) {p : Plan} → P.Sound p ≡ planned b whole → (b ≡ true) × (p ≡ whole)
 was-sound true whole e = (refl, cc)

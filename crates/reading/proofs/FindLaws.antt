@@ -78,3 +78,5 @@ module _ {p : Plan} {t : List ℕ} {a : At} where
             → FoundAs p t h n m → {b : At} → b ≡ onAt p a behind → Finds p t a (S.Message m b)
         finds-message u v i =
             record { is = rw (i, u .is, v .is, n-is, e .is) (rw (tested ∙ z) at (here .is)); counts = v .counter }
+
+pub ruleset findings = (some-header, finds-rest, findable, finds-message)

@@ -1,7 +1,7 @@
 -- What is read from a place on is what the step sees there, and then what is read from the place behind it. Behind `reads-on` nothing knows of turns.
 use Prim.Native.Nat.{ℕ, zero, suc, _<_}
 use native.Mathlib.Omega.{arith}
-use mathlib.Core.Path.{_≡_, refl, ap, _∙_}
+use mathlib.Core.Path.{_≡_, refl, sym, ap, _∙_}
 use mathlib.Core.List.{List, [], _∷_}
 use Rattle.layout.specs.Walk.{Out, before}
 use Rattle.packet.specs.declared.At.{At}
@@ -49,12 +49,18 @@ module _ {p : Plan} {t : List ℕ} where
       then-same k (goes p t (turns t a)) (reads p t)
       (λ b m. enough (turns t a) (suc (turns t b)) b (m .standing) (m .less) (omega arith)) (seen p t a) (view p t a)
 
-  module _ {a : At} (k : Standing p t a) where
-    pub crossing : {m : Found} {b : At} → S.Message m b ≡ seen p t a → Crossing p t a m b
-    crossing e = record { crossed = crosses k (rw (← e) at (view p t a)); reads-is = reads-on k ∙ rw (← e) }
+  module _ {a : At} (k : Standing p t a) {v : Seen} (s : v ≡ seen p t a) where
+    pub crossing : {m : Found} {b : At} → v ≡ S.Message m b → Crossing p t a m b
+    crossing e = let i = sym e ∙ s in record { crossed = crosses k (rw (← i) at (view p t a)); reads-is = reads-on k ∙ rw (← i) }
 
-    pub passing : {b : At} → S.Rest b ≡ seen p t a → Passing p t a b
-    passing e = record { moved = passes k (rw (← e) at (view p t a)); reads-is = reads-on k ∙ rw (← e) }
+    pub passing : {b : At} → v ≡ S.Rest b → Passing p t a b
+    passing e = let i = sym e ∙ s in record { moved = passes k (rw (← i) at (view p t a)); reads-is = reads-on k ∙ rw (← i) }
+
+    pub message-less : {m : Found} {b : At} → v ≡ S.Message m b → turns t b < turns t a
+    message-less e = crossing e .crossed .moved .less
+
+    pub rest-less : {b : At} → v ≡ S.Rest b → turns t b < turns t a
+    rest-less e = passing e .moved .less
 
   -- A transport's own definition of what is ahead, told by the steps, is what is read
   module _ (ahead : ℕ → Out Msg) (Stands : At → Type 0) (tells : (a : At) → Standing p t a → Stands a → Tells ahead Stands t a (seen p t a)) where

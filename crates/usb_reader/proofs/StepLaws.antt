@@ -22,6 +22,7 @@ use Rattle.plan.specs.Place.{behindAt, streamedAt, nextPacket}
 use Rattle.plan.proofs.CaseLaws.{by-test, by-less}
 use Rattle.plan.proofs.PlaceLaws.{end-starts, in-packet, streamed-is, on-by}
 use Rattle.usb.specs.declared.Verdict.{Verdict}
+use Rattle.usb.specs.declared.Verdict.the-variants.{TakeRest}
 use Rattle.usb.specs.Setting.{fields, H, whole}
 use Rattle.usb.specs.Reading.{space, lenAt, room, answer, seen, step, ahead}
 use Rattle.usb.proofs.SettingLaws.{good}
@@ -93,12 +94,12 @@ module _ {p : Plan} (k : Ready p) where
     abbrev left : ℕ
     left = length t - a .q
 
-    -- the bytes to the end of the data packet
-    to-end : a .q < a .end → p .datapacket - o ≡ a .end - a .q
-    to-end l = in-packet (p .datapacket) some-cut (a .q) (a .end) (h .cut) l (s .near)
+    -- the bytes to the end of the data packet, from this place or one behind it
+    to-end : (x : ℕ) → a .q ≤ x → x < a .end → p .datapacket - x % p .datapacket ≡ a .end - x
+    to-end x l u = in-packet (p .datapacket) some-cut x (a .end) (h .cut) u (omega (arith, s .near))
 
-    space-is : a .q < a .end → space (setting p) t (a .q) ≡ min (a .end) (length t) - a .q
-    space-is l = rw (to-end l) (omega arith)
+    space-is : (x : ℕ) → a .q ≤ x → x < a .end → space (setting p) t x ≡ min (a .end) (length t) - x
+    space-is x l u = rw (to-end x l u) (omega arith)
 
     -- LEN, which is said at the header's start
     len-said : says LEN (fields (setting p)) t (a .q) ≡ numberAt (p .lenwidth) t (a .q)
@@ -110,7 +111,7 @@ module _ {p : Plan} (k : Ready p) where
     len-is : a .q < a .end → lenAt (setting p) t (a .q) ≡ len p t a
     unfolding lenAt
     len-is l =
-        let d = space-is l in
+        let d = space-is (a .q) (omega arith) l in
         by-less (min (a .end) (length t)) (a .q + p .size)
         (λ u. rw (head-is, lt-leb _ _ u, lt-ltb (space (setting p) t (a .q)) (H (setting p)) (omega (arith, k .size, k .size-least))))
         (λ u. rw (head-is, le-leb _ _ u, le-ltb (space (setting p) t (a .q)) (H (setting p)) (omega (arith, k .size))) len-said)
@@ -136,31 +137,27 @@ module _ {p : Plan} (k : Ready p) where
 
     ---- Each case ------------------------------------------------------------------------------------------------------------
 
-    -- a rest is passed to the end of its data packet, or of the transfer
-    rest-over : a .q < a .end → a .q < length t → 0 < p .layout → len p t a ≡ 0
-        → ahead (setting p) t (a .q) ≡ ahead (setting p) t (min (a .end) (length t))
-    rest-over l u g z =
-        let e : a .q + space (setting p) t (a .q) ≡ min (a .end) (length t) = omega (arith, space-is l) in
-        ahead-by t (a .q) (Judged.bare (omega arith) g (len-is l ∙ z)) ∙ rw e
-
     -- from the end of the data packet on, or of the transfer, the same is ahead
     from-end : ahead (setting p) t (min (a .end) (length t)) ≡ ahead (setting p) t (a .end)
     from-end =
         by-less (length t) (a .end) (λ l. at-end t (min (a .end) (length t)) (omega arith) ∙ sym (at-end t (a .end) (omega arith)))
         (λ l. let e : min (a .end) (length t) ≡ a .end = omega arith in rw e)
 
-    -- behind a single message the rest of its data packet is passed
-    single-rest : p .layout ≡ 0 → (x : ℕ) → a .q < x → x < min (a .end) (length t)
-        → ahead (setting p) t x ≡ ahead (setting p) t (min (a .end) (length t))
-    single-rest e x l u =
-        let d = in-packet (p .datapacket) some-cut x (a .end) (h .cut) (omega arith) (omega (arith, s .near)) in
-        let r : x + space (setting p) t x ≡ min (a .end) (length t) = rw d (omega arith) in
-        ahead-by t x (Judged.behind (omega arith) e (omega (arith, h .single e))) ∙ rw r
+    -- a rest is passed to the end of its data packet
+    passed : (x : ℕ) → a .q ≤ x → x < min (a .end) (length t)
+        → Judged (setting p) (x % p .datapacket) (length t - x) (lenAt (setting p) t x) TakeRest → ahead (setting p) t x ≡ ahead (setting p) t (a .end)
+    passed x l u j =
+        let e : x + space (setting p) t x ≡ min (a .end) (length t) = omega (arith, space-is x l (omega arith)) in
+        ahead-by t x j ∙ rw e from-end
 
-    single-over : p .layout ≡ 0 → (x : ℕ) → a .q < x → x ≤ min (a .end) (length t)
-        → ahead (setting p) t x ≡ ahead (setting p) t (a .end)
+    bare-over : a .q < min (a .end) (length t) → 0 < p .layout → len p t a ≡ 0 → ahead (setting p) t (a .q) ≡ ahead (setting p) t (a .end)
+    bare-over u g z = passed (a .q) (omega arith) u (Judged.bare (omega arith) g (len-is (omega arith) ∙ z))
+
+    -- .. and so is what lies behind a single message
+    single-over : p .layout ≡ 0 → (x : ℕ) → a .q < x → x ≤ min (a .end) (length t) → ahead (setting p) t x ≡ ahead (setting p) t (a .end)
     single-over e x l u =
-        by-less x (min (a .end) (length t)) (λ v. single-rest e x l v ∙ from-end)
+        by-less x (min (a .end) (length t))
+        (λ v. let d = to-end x (omega arith) (omega arith) in passed x (omega arith) v (Judged.behind (omega arith) e (omega (arith, h .single e))))
         (λ v. let i : x ≡ min (a .end) (length t) = omega arith in rw i from-end)
 
     next-stands : Stands p (nextPacket p a)
@@ -173,15 +170,14 @@ module _ {p : Plan} (k : Ready p) where
 
     tells-rest : 0 < p .layout → len p t a ≡ 0 → a .end < length t → ahead (setting p) t (a .q) ≡ ahead (setting p) t (a .end)
     tells-rest g z l =
-        by-less (a .q) (a .end) (λ u. rest-over u (omega arith) g z ∙ from-end) (λ u. let e : a .q ≡ a .end = omega (arith, s .short) in rw e)
+        by-less (a .q) (a .end) (λ u. bare-over (omega arith) g z) (λ u. let e : a .q ≡ a .end = omega (arith, s .short) in rw e)
 
     tells-nothing : len p t a ≡ 0 → (0 < p .layout → p .layout < 3 → length t ≤ a .end) → (p .layout ≡ 0 → length t ≤ a .q)
         → ahead (setting p) t (a .q) ≡ list []
     tells-nothing z f g =
         let w : a .q < length t → 0 < p .layout = λ l. by-less 0 (p .layout) (λ u. u) (λ u. absurd (omega (arith, g (omega arith)))) in
         let e : a .q < length t → length t ≤ a .end = λ l. f (w l) (k .layout) in
-        by-less (a .q) (length t)
-        (λ l. rest-over (omega (arith, e l)) l (w l) z ∙ at-end t (min (a .end) (length t)) (omega (arith, e l))) (at-end t (a .q))
+        by-less (a .q) (length t) (λ l. bare-over (omega (arith, e l)) (w l) z ∙ at-end t (a .end) (e l)) (at-end t (a .q))
 
     module _ (y : Says p t a) where
       in-both : a .q < min (a .end) (length t)
@@ -200,7 +196,7 @@ module _ {p : Plan} (k : Ready p) where
       reach : limit p t a ≡ a .q + room (setting p) o left
       reach =
           let i = in-both in
-          by-test (ltb (p .layout) 2) (λ g. rw (g, to-end (omega arith)) (omega arith)) (λ g. rw g (omega arith))
+          by-test (ltb (p .layout) 2) (λ g. rw (g, to-end (a .q) (omega arith) (omega arith)) (omega arith)) (λ g. rw g (omega arith))
 
       tells-past : len p t a ≤ p .longest → limit p t a < next p t a → ahead (setting p) t (a .q) ≡ refused 5 (head p t a)
       tells-past l u =

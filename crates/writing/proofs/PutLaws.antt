@@ -1,16 +1,18 @@
 -- A rest and a message that are put byte by byte are those of the definitions.
 use Prim.Native.Nat.{ℕ, zero, suc, _+_, _*_, _-_, _/_, _%_, _<_, _≤_}
 use native.Mathlib.Omega.{arith}
+use borrow.Author.Needs.{needs}
 use native.Mathlib.Nat.{zero-add, add-zero, div-add-mod'}
 use mathlib.Core.Path.{_≡_, refl, sym, ap, _∙_}
 use mathlib.Core.Logic.{inl, inr}
-use mathlib.Core.Bool.{true, false, _&&_}
+use mathlib.Core.Bool.{Bool, true, false, _&&_}
 use mathlib.Core.List.{List, _++_, append-assoc}
 use lib.ListN.{length, take, drop, set, replicate, length-append, length-replicate}
 use lib.Seq.{sets, sets-eq, take-all, set-set}
 use lib.Dec.{eqb, leb}
 use borrow.Author.Tests.{leb-true, leb-false, eqb-true, eqb-false, eq-eqb, ne-eqb, le-leb, lt-leb}
 use Rattle.layout.specs.Field.{bytes}
+use Rattle.layout.specs.Leaf.{Within}
 use Rattle.layout.specs.Multiple.{pad, Aligned}
 use Rattle.layout.proofs.FieldLaws.{length-bytes}
 use Rattle.layout.proofs.MultipleLaws.{pad-less, pad-whole, aligned-power}
@@ -20,9 +22,10 @@ use Rattle.plan.specs.declared.Plan.{Plan}
 use Rattle.plan.specs.Place.{rests, Beyond}
 use Rattle.plan.proofs.CaseLaws.{by-test}
 use Rattle.plan.proofs.PlaceLaws.{behind-on}
+use Rattle.store.specs.Store.{Inside, Short}
 use Rattle.store.proofs.OverLaws.{drop-replicate, front-over, fill-ends}
 use Rattle.store.proofs.StoreLaws.{sets-within, lent-rest}
-use Rattle.writing.specs.Bytes.{restBytes, headBytes, messageBytes, lastOf, Skipping, Passing}
+use Rattle.writing.specs.Bytes.{restBytes, headBytes, messageBytes, lastOf, Skipping, Headed, Tailing, Fitting, Passing}
 use Rattle.writing.specs.Places.{wholeOf, Formed}
 
 ---- Rests ----------------------------------------------------------------------------------------------------------------------
@@ -32,6 +35,10 @@ front : (vs : List ℕ) (n b : ℕ) → length vs ≤ n → sets (replicate n b)
 front vs n b h =
     let l : length (replicate n b) ≡ n = length-replicate n b in
     sets-eq vs (replicate n b) 0 (omega arith) ∙ rw (zero-add (length vs), drop-replicate (length vs) n b)
+
+-- few enough to go by a store or two
+pub skip-few : {p : Plan} {out : List ℕ} {at n : ℕ} → Skipping p out at n → 2 ≤ p .layout → Short out at n 0 8
+skip-few s l = record { least = omega arith; most = s .few l; room = s .resting .room }
 
 module _ {p : Plan} (k : Formed p) (free n : ℕ) where
   pub rest-length : length (restBytes p free n) ≡ n
@@ -48,31 +55,37 @@ module _ {p : Plan} (k : Formed p) (free n : ℕ) where
     pub rest-none : n ≡ 0 → out ≡ sets out at (restBytes p free n)
     rest-none e = ap (sets out at) (take-all 0 (restBytes p free n) (omega (arith, rest-length)))
 
-    pub rest-free : rests p && leb (p .size) n ≡ false → sets out at (replicate n free) ≡ sets out at (restBytes p free n)
-    unfolding restBytes
-    rest-free e = rw e
-
-    -- in a frame there is none, and in a stream no header fits
-    pub rest-few : 2 ≤ p .layout → Skipping p out at n → sets out at (replicate n free) ≡ sets out at (restBytes p free n)
-    rest-few l s =
-        let o = ne-eqb (p .layout) 1 (λ e. omega arith) in
-        rest-free
-        (by-test (eqb (p .layout) 2) (λ g. rw (o, g, lt-leb (p .size) n (s .stream (eqb-true (p .layout) 2 g)))) (λ g. rw (o, g)))
-
-    module _ (e : rests p && leb (p .size) n ≡ true) where
-      pub header-fits : p .size ≤ n
-      header-fits = leb-true (p .size) n (and-right (rests p) (leb (p .size) n) e)
-
-      pub rest-zeroed : sets (sets out at (replicate n free)) at (bytes (p .lenwidth) 0) ≡ sets out at (restBytes p free n)
+    -- else free bytes, and a zero LEN over them where data packets may end with a rest and a header fits
+    module _ {one : List ℕ} (x : one ≡ sets out at (replicate n free)) where
+      pub rest-few : 2 ≤ p .layout → Skipping p out at n → one ≡ sets out at (restBytes p free n)
       unfolding restBytes
-      rest-zeroed =
-          let w : length (bytes (p .lenwidth) 0) ≡ p .lenwidth = length-bytes (p .lenwidth) 0 in
-          let d : length (replicate n free) ≡ n = length-replicate n free in
-          let f = k .sized .fields in
-          let z : sets (replicate n free) 0 (bytes (p .lenwidth) 0) ≡ bytes (p .lenwidth) 0 ++ replicate (n - p .lenwidth) free =
-          front (bytes (p .lenwidth) 0) n free (omega (arith, header-fits)) ∙ rw w in
-          ap (λ i. sets (sets out at (replicate n free)) i (bytes (p .lenwidth) 0)) (sym (add-zero at))
-          ∙ sets-within (bytes (p .lenwidth) 0) (replicate n free) out at 0 (omega (arith, header-fits)) ∙ rw (z, e)
+      rest-few l s =
+          let o = ne-eqb (p .layout) 1 (λ e. omega arith) in
+          x ∙ by-test (eqb (p .layout) 2) (λ g. rw (o, g, lt-leb (p .size) n (s .stream (eqb-true (p .layout) 2 g)))) (λ g. rw (o, g))
+
+      module _ {r b : Bool} (u : r ≡ rests p) (e : b ≡ (r && leb (p .size) n)) where
+        pub rest-free : b ≡ false → one ≡ sets out at (restBytes p free n)
+        unfolding restBytes
+        rest-free f = let g : rests p && leb (p .size) n ≡ false = sym (e ∙ rw u) ∙ f in x ∙ rw g
+
+        fits : b ≡ true → p .size ≤ n
+        fits f = leb-true (p .size) n (and-right r (leb (p .size) n) (sym e ∙ f))
+
+        pub rest-field : b ≡ true → at + n ≤ length out → length one ≡ length out → Within one at (p .lenwidth)
+        rest-field f l m = record { width = k .sized .len-narrow; inside = omega (arith, fits f, k .sized .fields) }
+
+        pub rest-zeroed : {new : List ℕ} → new ≡ sets one at (bytes (p .lenwidth) 0) → b ≡ true → new ≡ sets out at (restBytes p free n)
+        unfolding restBytes
+        rest-zeroed y f =
+            let w : length (bytes (p .lenwidth) 0) ≡ p .lenwidth = length-bytes (p .lenwidth) 0 in
+            let d : length (replicate n free) ≡ n = length-replicate n free in
+            let i = k .sized .fields in
+            let g : rests p && leb (p .size) n ≡ true = sym (e ∙ rw u) ∙ f in
+            let z : sets (replicate n free) 0 (bytes (p .lenwidth) 0) ≡ bytes (p .lenwidth) 0 ++ replicate (n - p .lenwidth) free =
+            front (bytes (p .lenwidth) 0) n free (omega (arith, fits f)) ∙ rw w in
+            y ∙ rw x
+            (ap (λ i. sets (sets out at (replicate n free)) i (bytes (p .lenwidth) 0)) (sym (add-zero at))
+            ∙ sets-within (bytes (p .lenwidth) 0) (replicate n free) out at 0 (omega (arith, fits f)) ∙ rw (z, g))
 
 ---- Headers --------------------------------------------------------------------------------------------------------------------
 
@@ -113,23 +126,39 @@ pad-one {a} (inr (inl e)) l x = omega (arith, pad-less a x (omega arith))
 pad-one (inr (inr (inl e))) l x = absurd (omega arith)
 pad-one (inr (inr (inr e))) l x = absurd (omega arith)
 
+module _ {p : Plan} {out : List ℕ} {end : ℕ} (t : Tailing p out end) (free : ℕ) where
+  pub tail-none : p .layout ≡ 3 → out ≡ sets out (end - lastOf p) (replicate (lastOf p) free)
+  tail-none e = rw (eq-eqb (p .layout) 3 e)
+
+  module _ (f : p .layout ≡ 3 → ⊥) where
+    pub tail-byte : p .align < 4 → set out (end - 1) free ≡ sets out (end - lastOf p) (replicate (lastOf p) free)
+    tail-byte h = rw (ne-eqb (p .layout) 3 f, lt-leb 4 (p .align) h)
+
+    pub tail-ends : 4 ≤ p .align → {one two : List ℕ} → one ≡ sets out (end - p .align) (replicate 4 free)
+        → two ≡ sets one (end - 4) (replicate 4 free) → two ≡ sets out (end - lastOf p) (replicate (lastOf p) free)
+    tail-ends h x y =
+        let l = t .reached f in
+        rw (ne-eqb (p .layout) 3 f, le-leb 4 (p .align) h)
+        (fill-ends out (end - p .align) (p .align) 4 free h (omega (arith, aligned-power (t .formed .sized .aligned) .high)) x (omega arith) y)
+
+-- both runs of four lie before the end
+module _ {p : Plan} {out : List ℕ} {end : ℕ} (t : Tailing p out end) (f : p .layout ≡ 3 → ⊥) where
+  pub tail-starts : p .align ≤ end
+  tail-starts = t .reached f
+
+  module _ (h : 4 ≤ p .align) where
+    pub tail-four : 4 ≤ end
+    tail-four = let l = t .reached f in omega arith
+
+    pub tail-front : Inside out (end - p .align) 4
+    tail-front = let l = t .reached f in record { room = omega (arith, t .room) }
+
+    pub tail-back : {one : List ℕ} → length one ≡ length out → Inside one (end - 4) 4
+    tail-back e = let l = t .reached f in record { room = omega (arith, t .room) }
+
 module _ {p : Plan} (k : Formed p) where
-  module _ (out : List ℕ) (end free : ℕ) where
-    pub tail-none : p .layout ≡ 3 → out ≡ sets out (end - lastOf p) (replicate (lastOf p) free)
-    tail-none e = rw (eq-eqb (p .layout) 3 e)
-
-    module _ (f : p .layout ≡ 3 → ⊥) where
-      pub tail-ends : 4 ≤ p .align → p .align ≤ end → {one two : List ℕ} → one ≡ sets out (end - p .align) (replicate 4 free)
-          → two ≡ sets one (end - 4) (replicate 4 free) → two ≡ sets out (end - lastOf p) (replicate (lastOf p) free)
-      tail-ends h l x y =
-          rw (ne-eqb (p .layout) 3 f, le-leb 4 (p .align) h)
-          (fill-ends out (end - p .align) (p .align) 4 free h (omega (arith, aligned-power (k .sized .aligned) .high)) x (omega arith) y)
-
-      pub tail-byte : p .align < 4 → set out (end - 1) free ≡ sets out (end - lastOf p) (replicate (lastOf p) free)
-      tail-byte h = rw (ne-eqb (p .layout) 3 f, lt-leb 4 (p .align) h)
-
   module _ (n : ℕ) {w : ℕ} (v : Beyond (wholeOf p n) (p .size + n) w) where
-    pub reached : (p .layout ≡ 3 → ⊥) → p .align ≤ w
+    reached : (p .layout ≡ 3 → ⊥) → p .align ≤ w
     reached f =
         let e : w ≡ p .size + n + pad (p .align) (p .size + n) = v .is ∙ rw (ne-eqb (p .layout) 3 f) in
         let m = pad-whole (p .align) (p .size + n) (aligned-power (k .sized .aligned) .low) in
@@ -173,6 +202,27 @@ module _ {p : Plan} (k : Formed p) where
   message-length free c b =
       simp (length-append, length-replicate, length-bytes) (omega (arith, k .sized .fields, behind-on p (p .size + length b)))
 
+module _ {p : Plan} {out b : List ℕ} (h : Fitting p out b) {w : ℕ} (v : Beyond (wholeOf p (length b)) (p .size + length b) w) where
+  pub tailing : Tailing p out w
+  tailing =
+      record {
+        formed = h .formed;
+        some = omega (arith, v .on, h .formed .sized .size-least);
+        reached = reached (h .formed) (length b) v;
+        room = omega (arith, v .is, h .room);
+      }
+
+  pub heading : {one : List ℕ} → length one ≡ length out → Headed p one
+  heading e =
+      let z = h .formed .sized in
+      record {
+        len-narrow = z .len-narrow;
+        ctr-narrow = z .ctr-narrow;
+        inside = z .fields;
+        free-most = h .formed .free-most;
+        room = omega (arith, v .is, v .on, h .room);
+      }
+
 -- a message behind the rest before it, where the output from its place on was lent
 pub one-put : {p : Plan} {out : List ℕ} {q from : ℕ} {b : List ℕ} → Passing p out q from b → (free : ℕ) (msg : List ℕ) {one ys : List ℕ}
     → one ≡ sets out q (restBytes p free (from - q)) → ys ≡ sets (take (length one - from) (drop from one)) 0 msg
@@ -181,3 +231,11 @@ one-put {p} {out} {q} {from} h free msg {one} x y =
     let r : List ℕ = restBytes p free (from - q) in
     let e : q + length r ≡ from = omega (arith, h .on, rest-length (h .skipping .resting .formed) free (from - q)) in
     lent-rest one msg from y ∙ rw x (sym (sets-append r msg out q ∙ rw e))
+
+pub ruleset rested = (needs, rest-none, rest-field, rest-free, rest-zeroed)
+
+pub ruleset passed = (needs, skip-few, rest-few)
+
+pub ruleset tails = (needs, tail-none, tail-starts, tail-four, tail-front, tail-back, tail-ends, tail-byte)
+
+pub ruleset messages = (needs, head-put, tailing, heading, message-put, one-put)

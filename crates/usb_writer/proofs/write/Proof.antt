@@ -1,35 +1,10 @@
--- The plan decides. In each answer f is the place behind `plan_for`, and m that behind the match.
-use borrow.Author.Needs.{needs}
-use Rattle.packet.proofs.AnswerLaws.{gives-so}
-use Rattle.usb_plan.proofs.PlanLaws.{planned-ready, unplanned}
-use Rattle.usb_writer.proofs.WritesLaws.{unsound, as-given}
+-- The plan decides.
+use Rattle.usb_writer.proofs.WritesLaws.{plans}
 use Rattle.usb_writer.proofs.write.Statement.{statement}
 use Rattle.usb_writer.proofs.write.Tie as tie
-
-ready : tie.Need-write-sound-requires
-ready c κs =
-    let m = c .before .before in
-    let f = m .before .before in
-    planned-ready (rw (m .p .given .1) at (f .plan-for .ensures)) .1
-
-answers : tie.Need-returns
-answers c =
-    let r = c .before .before in
-    let m = r .before .before .before in
-    let f = m .before .before in
-    let s = f .before .before .before .before in
-    gives-so (as-given _ _ _ (s .args .fill) (s .args .full) _ (planned-ready (rw (m .p .given .1) at (f .plan-for .ensures)) .0)) (r .write-sound .ensures)
-
-refuses : tie.Need-returns-2
-refuses c =
-    let r = c .before .before in
-    let m = r .before .before in
-    let f = m .before .before in
-    let s = f .before .before .before .before in
-    gives-so (unsound _ _ _ (s .args .fill) (s .args .full) _ _ (unplanned _ (rw (m .enum-told .given .1) at (f .plan-for .ensures)))) (r .refuse .ensures)
 
 pub write-spec : {M : Type 1} → statement M
 write-spec =
     tie.close
-    (tie.spec (λ c κs. search needs) (λ c. search needs) ready (λ c. search needs) (λ c κs. search needs) (λ c. search needs) answers
-    (λ c. search needs) refuses)
+    (tie.spec (λ c κs. search plans) (λ c. search plans) (λ c κs. search plans) (λ c. search plans) (λ c κs. search plans) (λ c. search plans)
+    (λ c. search plans) (λ c. search plans) (λ c. search plans))
