@@ -19,7 +19,7 @@ use Rattle.writing.specs.declared.Begin.{Begin}
 use Rattle.writing.specs.Puts.{Writable}
 use Rattle.writing.specs.Sizes.{misfitAt, reach, first, Sizable}
 
--- such a plan, and lengths from a place on
+-- a plan of further packets, whose header is a LEN byte; and lengths from a place on
 pub record Sizing (p : Plan) (q : ℕ) (ns : List ℕ) : Type 0 where
   pub cased : Cased 3 1 0 1 (p .align) p
   pub sizable : Sizable p q ns

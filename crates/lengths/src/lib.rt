@@ -26,7 +26,7 @@ fn sum(lengths: &[u32]) -> usize
 }
 
 // Whether there are too many lengths, or their sum differs from the bytes.
-pub fn mismatched(lengths: &[u32], packets: &[u8]) -> bool
+fn mismatched(lengths: &[u32], packets: &[u8]) -> bool
     ensures { λ r. ⌜ r ≡ mismatchedOf (now (lengths .entry)) (now (packets .entry)) ⌝ }
 {
     if 4096 < lengths.len() {

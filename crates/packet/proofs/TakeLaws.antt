@@ -29,9 +29,6 @@ taking e = record { few = omega arith; left = omega arith }
 pub part-is : (bs : List ℕ) (from n : ℕ) → take (from + n - from) (drop from bs) ≡ take n (drop from bs)
 part-is bs from n = let e : from + n - from ≡ n = omega arith in rw e
 
-pub front-is : (bs : List ℕ) (n : ℕ) → take (n - 0) (drop 0 bs) ≡ take n (drop 0 bs)
-front-is bs n = let e : n - 0 ≡ n = omega arith in rw e
-
 module _ {bs ns : List ℕ} {from i : ℕ} (t : Taking bs ns from i) (l : i < length ns) {n : ℕ} (e : n ≡ getD ns i 0) where
   -- the packet at i lies inside the joined bytes
   pub inside : from + n ≤ length bs

@@ -8,11 +8,11 @@ use lib.Dec.{ltb, eqb}
 use borrow.Author.Tests.{lt-ltb, le-ltb, eq-eqb, eqb-true, eqb-false}
 use Rattle.packet.specs.declared.At.{At}
 use Rattle.plan.specs.declared.Plan.{Plan}
-use Rattle.plan.specs.Place.{rests, headerAt, behindAt, streamedAt, nextPacket, onAt, Streaming}
+use Rattle.plan.specs.Place.{rests, headerAt, behindAt, streamedAt, nextPacket, onAt}
 use Rattle.plan.proofs.CaseLaws.{by-test, by-less}
 
 -- the end in which a stream's place stands is at most one end on, or is found by a division
-module _ {m end q next : ℕ} (s : Streaming m end q) (e : next ≡ cond (ltb q end) end (end + m)) where
+module _ (m end q : ℕ) {next : ℕ} (e : next ≡ cond (ltb q end) end (end + m)) where
   pub stream-near : q < next → next ≡ streamedAt m end q
   stream-near l = rw (← e, lt-ltb q next l)
 

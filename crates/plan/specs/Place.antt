@@ -53,6 +53,3 @@ pub record Streaming (m end q : ℕ) : Type 0 where
   pub short : m ≤ 1024
   pub near : q < 1000000000
   pub far : end < 1000000000
-
-pub record Onward (p : Plan) (a : At) (next : ℕ) : Type 0 where
-  pub streaming : Streaming (p .datapacket) (a .end) next

@@ -2,7 +2,7 @@
 // number: 0 single, 1 multiple, 2 streaming, 3 frame. Whoever calls with literals gets a function of its own from the compiler.
 ghost use mathlib.Core.Path.{_≡_};
 ghost use Prim.Native.Nat.{_+_, _≤_};
-ghost use Rattle.plan.specs.Place.{Near, Beyond, Streaming, Onward, rests as restsOf, headerAt, behindAt, streamedAt, nextPacket, onAt};
+ghost use Rattle.plan.specs.Place.{Near, Beyond, Streaming, rests as restsOf, headerAt, behindAt, streamedAt, nextPacket, onAt};
 ghost use Rattle.plan.specs.Plan.{planOf, Cased};
 use layout::Shape;
 use layout::either;
@@ -140,7 +140,7 @@ pub fn next_packet(p: Plan, a: At) -> At
 
 // The place behind a message. A single one leaves the rest of its data packet free, which is passed with it.
 pub fn on(p: Plan, a: At, next: usize) -> At
-    requires { ⌜ Onward p a next ⌝ }
+    requires { ⌜ Streaming (p .datapacket) (a .end) next ⌝ }
     ensures { λ r. ⌜ r ≡ onAt p a next ⌝ }
 {
     if p.layout == 0 {

@@ -25,7 +25,6 @@ use Rattle.packet.proofs.part.Reads as Part
 use Rattle.lent.specs.declared.Told.{Told}
 use Rattle.lent.specs.Told.{Tells}
 use Rattle.lent.proofs.ThinCounter.{one-telling}
-use Rattle.lengths.proofs.mismatched.Reads as Mismatched
 use Rattle.lengths.proofs.crowded.Reads as Crowded
 use Rattle.plan.proofs.joined.Reads as Joined
 use Rattle.plan.proofs.rests.Reads as Rests
@@ -140,8 +139,8 @@ part x a r u e f = same (r .now) (u .now) e f
 
 ---- What writers check ---------------------------------------------------------------------------------------------------------
 
-pub checks : (Mismatched.Post allows-one) × (Crowded.Post allows-one)
-checks = (λ x a. same, λ x a. same)
+pub crowded : Crowded.Post allows-one
+crowded x a = same
 
 ---- Fields, numbers and tests --------------------------------------------------------------------------------------------------
 

@@ -1,5 +1,5 @@
-// Reading, written once for every layout: a step, a loop over it that judges, and a loop that gives the rows. Each caller says its case by
-// literals, all at one call, and the compiler makes a loop for each case.
+// Reading, written once for every layout: a step that judges and a loop over it, a step that tests no rule and a loop over it that gives the rows.
+// Each caller says its case by literals, all at one call, and the compiler makes a loop for each case.
 ghost use mathlib.Core.Path.{_≡_};
 ghost use Prim.Native.Nat.{_+_, _*_, _≤_};
 ghost use lib.ListN.{length};

@@ -16,7 +16,7 @@ use Rattle.packet.specs.Message.{Msg}
 use Rattle.packet.proofs.AnswerLaws.{gives, gives-so}
 use Rattle.rows.specs.declared.Judged.the-variants.{Rows, Refused}
 use Rattle.rows.specs.Count.{counted, JudgedAs}
-use Rattle.rows.specs.Fill.{Filled.filled, fillOf, Room}
+use Rattle.rows.specs.Fill.{Filled.filled, fillOf}
 
 module _ (told : List Msg → List ℕ) (state : List Msg → Counter) (rows : List ℕ) where
   abbrev answerOf : Bool → Out Msg → Answer Reading

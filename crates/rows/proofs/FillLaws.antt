@@ -12,7 +12,6 @@ use Rattle.packet.specs.Counter.{advance}
 use Rattle.packet.specs.Message.{Msg}
 use Rattle.packet.specs.Row.{row, numbers, table, behind}
 use Rattle.packet.specs.Seen.{message}
-use Rattle.rows.specs.Counters.{Sane}
 use Rattle.rows.specs.Fill.{Filled, Filled.filled, filling, Room, Filling}
 use Rattle.rows.specs.Rows.{Put}
 
@@ -29,10 +28,6 @@ filling-before d w rows i c m (list ms) =
     let e : i + 5 ≡ suc (suc (suc (suc (suc i)))) = omega arith in
     rw e
 filling-before d w rows i c m (refused a q) = refl
-
-pub fill-start : {d w : ℕ} {rows : List ℕ} {c : Counter} {o : Out Msg} → Sane w c → Room (length rows) 0 o
-    → Filling d w (filling d w rows 0 c o) (length rows) o 0 c rows
-fill-start s h = record { sane = s; long = refl; room = h; same = refl }
 
 module _ {d w : ℕ} {whole : Filled} {n : ℕ} {now : Out Msg} {i : ℕ} {c : Counter} {rows : List ℕ}
     (f : Filling d w whole n now i c rows) where
@@ -51,9 +46,6 @@ module _ {d w : ℕ} {whole : Filled} {n : ℕ} {now : Out Msg} {i : ℕ} {c : C
 
   pub fill-rest : {next : Out Msg} → now ≡ next → Filling d w whole n next i c rows
   fill-rest e = record { sane = f .sane; long = f .long; room = rw e at (f .room); same = f .same ∙ rw e }
-
-  pub fill-refused : {a q : ℕ} → now ≡ refused a q → ⊥
-  fill-refused e = rw e at (f .room)
 
   pub fill-nothing : now ≡ list [] → filled rows c ≡ whole
   unfolding table behind

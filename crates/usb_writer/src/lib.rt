@@ -25,6 +25,7 @@ use writing::put_loop;
 use writing::put_rest;
 use writing::size_loop;
 
+// Sizes messages from the start on. Only the layout is said by a literal: it is by the layout that the loops differ.
 fn size(p: Plan, lengths: &[u32]) -> Sized
     requires { ⌜ Sizing p (now lengths) ⌝ }
     ensures { λ r. ⌜ SizedAs p 0 (now (lengths .entry)) r ⌝ }

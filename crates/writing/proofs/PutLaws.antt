@@ -164,7 +164,7 @@ module _ {p : Plan} (k : Formed p) where
         let m = pad-whole (p .align) (p .size + n) (aligned-power (k .sized .aligned) .low) in
         multiple-least (p .align) w (omega (arith, v .on, k .sized .size-least)) (rw e m)
 
-    -- as many last bytes as the tail can have lie inside the message, and hold the tail
+    -- the last bytes lie inside the message, and hold the tail
     last-bytes : (w ≤ p .size + n + lastOf p) × (lastOf p ≤ w)
     last-bytes =
         by-test (eqb (p .layout) 3) (λ g. let e : w ≡ p .size + n = v .is ∙ rw g in rw g (omega arith, omega arith))

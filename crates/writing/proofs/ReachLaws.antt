@@ -7,7 +7,7 @@ use mathlib.Core.Bool.{false, _&&_, _||_}
 use mathlib.Core.List.{List, [], _∷_}
 use lib.ListN.{length}
 use lib.Dec.{eqb, ltb}
-use borrow.Author.Tests.{ltb-false, lt-ltb, le-ltb, eq-eqb, ne-eqb, eqb-false}
+use borrow.Author.Tests.{ltb-false, lt-ltb, le-ltb, eq-eqb, ne-eqb}
 use Rattle.layout.specs.Multiple.{pad, Aligned}
 use Rattle.layout.proofs.MultipleLaws.{pad-less, aligned-power}
 use Rattle.layout.proofs.TestLaws.{or-left, or-right}
@@ -81,9 +81,6 @@ pub record Clear (p : Plan) (a : At) (ns : List ℕ) : Type 0 where
 module _ {p : Plan} (k : Formed p) {a : At} {n : ℕ} (f : Fit p a n) where
   short : eqb n 0 || ltb (limitOf p) n ≡ false
   short = or-left (eqb n 0 || ltb (limitOf p) n) _ (f .is)
-
-  pub fit-some : 0 < n
-  fit-some = omega (arith, eqb-false n 0 (or-left (eqb n 0) (ltb (limitOf p) n) short))
 
   pub fit-limit : n ≤ limitOf p
   fit-limit = ltb-false (limitOf p) n (or-right (eqb n 0) (ltb (limitOf p) n) short)

@@ -24,7 +24,7 @@ headBytes p free c n =
 abbrev pub messageBytes : Plan → (free c : ℕ) → List ℕ → List ℕ
 messageBytes p free c b = headBytes p free c (length b) ++ (b ++ replicate (wholeOf p (length b) - (p .size + length b)) free)
 
--- as many last bytes of a message as its tail can have
+-- so many last bytes of a message, which hold its tail: as many as the alignment, or one below 4
 abbrev pub lastOf : Plan → ℕ
 lastOf p = cond (eqb (p .layout) 3) 0 (cond (leb 4 (p .align)) (p .align) 1)
 

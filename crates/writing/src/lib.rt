@@ -161,7 +161,7 @@ pub fn put_rest(p: Plan, out: &mut [u8], at: usize, n: usize, free: u8)
     }
 }
 
-// Writes what is passed over before a message: in a stream or a frame a few free bytes, and no header fits.
+// Writes what is passed over before a message: in a stream a few free bytes, in which no header fits, and in a frame those that align a packet.
 fn put_passed(p: Plan, out: &mut [u8], at: usize, n: usize, free: u8)
     requires { ⌜ Skipping p (now out) at n ⌝ }
     ensures { λ _. ⌜ now (out .exit) ≡ sets (now (out .entry)) at (restBytes p free n) ⌝ }
@@ -200,7 +200,7 @@ fn put_header(p: Plan, out: &mut [u8], n: usize, ctr: u32, free: u8)
     );
 }
 
-// Fills as many last bytes of a message that ends there as its tail can have. Header and packet go over them.
+// Fills at least as many last bytes of a message that ends there as its tail can have. Header and packet go over them.
 fn put_tail(p: Plan, out: &mut [u8], end: usize, free: u8)
     requires { ⌜ Tailing p (now out) end ⌝ }
     ensures { λ _. ⌜ now (out .exit) ≡ sets (now (out .entry)) (end - lastOf p) (replicate (lastOf p) free) ⌝ }

@@ -1,3 +1,5 @@
+-- In the answer l is the place behind LEN, t that behind CTR, w that behind `wide32`, n that behind the node, f that behind `fill`, s the start. It is
+-- written out: of a header that is put wrongly a search would only say that it broke off.
 use borrow.Author.Needs.{needs}
 use Rattle.flexray_writer.proofs.HeaderLaws.{header-put}
 use Rattle.flexray_writer.proofs.put_header.Statement.{statement}

@@ -1,3 +1,4 @@
+-- The last bytes may lie over the first.
 use native.Mathlib.Omega.{arith}
 use mathlib.Core.Path.{refl}
 use borrow.Author.Needs.{needs}

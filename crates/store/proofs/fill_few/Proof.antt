@@ -1,3 +1,4 @@
+-- A few bytes, or the first four and the last four.
 use native.Mathlib.Omega.{arith}
 use borrow.Author.Needs.{needs}
 use Rattle.store.proofs.FewLaws.{few-free}

@@ -1,3 +1,4 @@
+-- Whole, nothing, a few bytes, or both ends, of eight bytes where the packet has them.
 use native.Mathlib.Omega.{arith}
 use mathlib.Core.Path.{sym, ap, _∙_}
 use mathlib.Core.Bool.{not}

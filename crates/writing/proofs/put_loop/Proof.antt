@@ -1,4 +1,5 @@
--- The bytes, and the counter. In each answer d is the place behind `place`, w that behind `wide32`, t the loop's test, i the loop's invariant.
+-- The bytes, and the counter. In each answer r is the place behind `after`, o that behind `put_one`, d that behind `place`, w that behind `wide32`, t the
+-- loop's test, i its invariant.
 use Prim.Native.Nat.{_-_}
 use native.Mathlib.Omega.{arith}
 use mathlib.Core.Path.{refl}

@@ -1,4 +1,5 @@
--- In each answer i is the loop's invariant, t its test, w the place behind `wide32`, e that behind `either`, d that behind `place`.
+-- In each answer i is the loop's invariant, t its test, w the place behind `wide32`, e that behind `either`, f that behind its test, d that behind `place`,
+-- b that behind `both`, g that behind its test.
 use Prim.Native.Nat.{_-_}
 use native.Mathlib.Omega.{arith}
 use mathlib.Core.Path.{sym, _∙_}
