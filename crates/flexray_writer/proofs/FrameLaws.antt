@@ -22,12 +22,12 @@ use Rattle.flexray.specs.Setting.{H, fields, start}
 use Rattle.flexray.specs.Writing.{evening, further, frame, spansBehind, spans, misfit as misfitOf}
 use Rattle.flexray_plan.specs.Plan.{setting, furtherOf, Ready}
 use Rattle.flexray_plan.proofs.PlanLaws.{further-sized}
+use Rattle.sizing.specs.Places.{Formed, spot}
+use Rattle.sizing.specs.Sizes.{misfit, misfitAt, reach, first}
+use Rattle.sizing.proofs.ReachLaws.{Clear, clear-first, fit-limit, fit-frame}
 use Rattle.writing.specs.declared.Begin.{Begin}
 use Rattle.writing.specs.Bytes.{restBytes}
-use Rattle.writing.specs.Places.{Formed, spot}
 use Rattle.writing.specs.Puts.{bytesFrom}
-use Rattle.writing.specs.Sizes.{misfit, misfitAt, reach, first}
-use Rattle.writing.proofs.ReachLaws.{Clear, clear-first, fit-limit, fit-frame}
 use Rattle.flexray_writer.specs.Writes.{headBytes, Begun}
 
 module _ {p : Plan} (k : Ready p) where

@@ -36,12 +36,12 @@ use Rattle.flexray.specs.Writing.{evening, further, frame, spans, misfit, misco
 use Rattle.flexray.proofs.FrameLaws.{evening-length}
 use Rattle.flexray_plan.specs.Plan.{setting, plannedOf, furtherOf, Ready}
 use Rattle.flexray_plan.proofs.PlanLaws.{planned-ready, unplanned}
+use Rattle.sizing.specs.declared.Sized.{Sized}
+use Rattle.sizing.specs.Sizes.{first, SizedAs}
+use Rattle.sizing.proofs.ReachLaws.{Clear}
 use Rattle.writing.specs.declared.Begin.{Begin}
-use Rattle.writing.specs.declared.Sized.{Sized}
 use Rattle.writing.specs.Puts.{bytesFrom, Wrote}
-use Rattle.writing.specs.Sizes.{first, SizedAs}
 use Rattle.writing.proofs.AllLaws.{bytes-length}
-use Rattle.writing.proofs.ReachLaws.{Clear}
 use Rattle.flexray_writer.specs.Writes.{Sizing, Putting, headBytes, Begun, Counted, Fitted, Roomy}
 use Rattle.flexray_writer.proofs.FrameLaws.{formed, reach-inside, further-is, index-is, frame-long, frame-past, frame-over}
 

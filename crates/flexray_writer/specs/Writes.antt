@@ -15,9 +15,9 @@ use Rattle.flexray.specs.declared.Setting.{Setting}
 use Rattle.flexray.specs.Setting.{fields, mostCeiling}
 use Rattle.flexray.specs.Writing.{miscounted}
 use Rattle.flexray_plan.specs.Plan.{setting, furtherOf, Ready}
+use Rattle.sizing.specs.Sizes.{misfitAt, reach, first, Sizable}
 use Rattle.writing.specs.declared.Begin.{Begin}
 use Rattle.writing.specs.Puts.{Writable}
-use Rattle.writing.specs.Sizes.{misfitAt, reach, first, Sizable}
 
 -- a plan of further packets, whose header is a LEN byte; and lengths from a place on
 pub record Sizing (p : Plan) (q : ℕ) (ns : List ℕ) : Type 0 where

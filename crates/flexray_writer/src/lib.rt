@@ -9,8 +9,8 @@ ghost use Rattle.packet.specs.Limit.{mostLengths};
 ghost use Rattle.packet.specs.Packets.{packets as packetsOf};
 ghost use Rattle.flexray.specs.Writing.{frame, evening, miscounted as miscountedOf, writeOf};
 ghost use Rattle.flexray_plan.specs.Plan.{setting, Ready};
+ghost use Rattle.sizing.specs.Sizes.{SizedAs};
 ghost use Rattle.writing.specs.Puts.{Wrote};
-ghost use Rattle.writing.specs.Sizes.{SizedAs};
 ghost use Rattle.flexray_writer.specs.Writes.{Sizing, Putting, headBytes, Leading, Evening, Begun, Counted, Fitted, Roomy};
 use flexray::Setting;
 use flexray_plan::further;
@@ -28,11 +28,11 @@ use plan::Plan;
 use plan::Planned;
 use rows::after;
 use rows::holds;
+use sizing::Sized;
+use sizing::size_loop;
 use store::fill;
 use writing::Begin;
-use writing::Sized;
 use writing::put_loop;
-use writing::size_loop;
 
 // Whether the list is empty or too long, or is not one packet without LEN.
 fn miscounted(p: Plan, lengths: &[u32]) -> bool

@@ -11,8 +11,8 @@ use Rattle.plan.specs.declared.Plan.{Plan}
 use Rattle.plan.specs.Plan.{Cased}
 use Rattle.usb.specs.Setting.{headers, fields}
 use Rattle.usb_plan.specs.Plan.{setting, Ready}
+use Rattle.sizing.specs.Places.{Formed}
 use Rattle.writing.specs.Bytes.{headBytes}
-use Rattle.writing.specs.Places.{Formed}
 
 module _ {p : Plan} (k : Ready p) where
   pub formed : Formed p

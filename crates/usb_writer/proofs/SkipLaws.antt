@@ -14,9 +14,9 @@ use Rattle.plan.proofs.CaseLaws.{by-test, by-less}
 use Rattle.plan.proofs.PlaceLaws.{end-only, end-starts, streamed-is}
 use Rattle.usb.specs.Writing.{permits, skipped}
 use Rattle.usb_plan.specs.Plan.{setting, Ready}
-use Rattle.writing.specs.Places.{spot}
-use Rattle.writing.specs.Sizes.{first}
-use Rattle.writing.proofs.ReachLaws.{Fit, fit-packet}
+use Rattle.sizing.specs.Places.{spot}
+use Rattle.sizing.specs.Sizes.{first}
+use Rattle.sizing.proofs.ReachLaws.{Fit, fit-packet}
 use Rattle.usb_writer.proofs.ShapeLaws.{formed}
 
 -- a place in a data packet, or at its end

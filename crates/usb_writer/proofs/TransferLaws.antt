@@ -21,12 +21,12 @@ use Rattle.usb.specs.Setting.{whole}
 use Rattle.usb.specs.Writing as U
 use Rattle.usb.specs.Writing.{skipped, write}
 use Rattle.usb_plan.specs.Plan.{setting, Ready}
+use Rattle.sizing.specs.Places.{wholeOf, spot}
+use Rattle.sizing.specs.Sizes.{limitOf, misfit, misfitAt, reach}
+use Rattle.sizing.proofs.ReachLaws.{whole-fits, Fit, Clear, clear-first, spot-past}
 use Rattle.writing.specs.Bytes.{restBytes, messageBytes}
-use Rattle.writing.specs.Places.{wholeOf, spot}
 use Rattle.writing.specs.Puts.{bytesFrom}
-use Rattle.writing.specs.Sizes.{limitOf, misfit, misfitAt, reach}
 use Rattle.writing.proofs.PutLaws.{rest-length}
-use Rattle.writing.proofs.ReachLaws.{whole-fits, Fit, Clear, clear-first, spot-past}
 use Rattle.usb_writer.specs.Writes.{endOf}
 use Rattle.usb_writer.proofs.ShapeLaws.{formed, head-is}
 use Rattle.usb_writer.proofs.SkipLaws.{Cut, step}

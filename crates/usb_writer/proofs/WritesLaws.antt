@@ -32,13 +32,13 @@ use Rattle.usb.specs.Writing as U
 use Rattle.usb.specs.Writing.{write, misfit, writeOf}
 use Rattle.usb_plan.specs.Plan.{setting, plannedOf, Ready}
 use Rattle.usb_plan.proofs.PlanLaws.{planned-ready, unplanned}
-use Rattle.writing.specs.declared.Sized.{Sized}
+use Rattle.sizing.specs.declared.Sized.{Sized}
+use Rattle.sizing.specs.Sizes.{reach, first, SizedAs}
+use Rattle.sizing.proofs.ReachLaws.{Clear}
 use Rattle.writing.specs.Bytes.{restBytes, Resting}
 use Rattle.writing.specs.Puts.{bytesFrom, Wrote}
-use Rattle.writing.specs.Sizes.{reach, first, SizedAs}
 use Rattle.writing.proofs.AllLaws.{bytes-length}
 use Rattle.writing.proofs.PutLaws.{rest-length}
-use Rattle.writing.proofs.ReachLaws.{Clear}
 use Rattle.usb_writer.specs.Writes.{Sizing, Putting, endOf, Ahead, Counted, Fitted, Roomy, composed, Composed}
 use Rattle.usb_writer.proofs.ShapeLaws.{formed}
 use Rattle.usb_writer.proofs.SkipLaws.{Cut, first-cut}

@@ -12,10 +12,10 @@ use Rattle.packet.specs.Limit.{mostLengths, mostBytes}
 use Rattle.packet.specs.Packets.{sum, packets}
 use Rattle.plan.specs.declared.Plan.{Plan}
 use Rattle.usb_plan.specs.Plan.{Ready}
+use Rattle.sizing.specs.Sizes.{misfitAt, reach, first, Sizable}
 use Rattle.writing.specs.declared.Begin.{Begin}
 use Rattle.writing.specs.Bytes.{restBytes}
 use Rattle.writing.specs.Puts.{bytesFrom, Writable}
-use Rattle.writing.specs.Sizes.{misfitAt, reach, first, Sizable}
 
 -- lengths to be sized, and packets to be put
 pub record Sizing (p : Plan) (ns : List ℕ) : Type 0 where

@@ -4,8 +4,8 @@ ghost use lib.ListN.{length};
 ghost use Rattle.packet.specs.Answer.{Gives};
 ghost use Rattle.usb.specs.Writing.{writeOf};
 ghost use Rattle.usb_plan.specs.Plan.{setting, Ready};
+ghost use Rattle.sizing.specs.Sizes.{SizedAs};
 ghost use Rattle.writing.specs.Puts.{Wrote};
-ghost use Rattle.writing.specs.Sizes.{SizedAs};
 ghost use Rattle.usb_writer.specs.Writes.{Sizing, Putting, endOf, Ahead, Counted, Fitted, Roomy, Composed};
 use layout::both;
 use layout::pick;
@@ -17,13 +17,13 @@ use packet::Writing;
 use plan::Plan;
 use plan::Planned;
 use rows::holds;
+use sizing::Sized;
+use sizing::size_loop;
 use usb::Setting;
 use usb_plan::plan_for;
 use writing::Begin;
-use writing::Sized;
 use writing::put_loop;
 use writing::put_rest;
-use writing::size_loop;
 
 // Sizes messages from the start on. Only the layout is said by a literal: it is by the layout that the loops differ.
 fn size(p: Plan, lengths: &[u32]) -> Sized

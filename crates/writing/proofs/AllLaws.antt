@@ -14,15 +14,15 @@ use Rattle.packet.proofs.TakeLaws.{here, none-left, Taking, taking, taking-next
 use Rattle.plan.specs.declared.Plan.{Plan}
 use Rattle.rows.specs.Counters.{Said, After}
 use Rattle.store.proofs.StoreLaws.{sets-behind}
+use Rattle.sizing.specs.declared.Spot.{Spot}
+use Rattle.sizing.specs.Places.{spot, Formed, Placing, Placed}
+use Rattle.sizing.specs.Sizes.{reach, first}
+use Rattle.sizing.proofs.ReachLaws.{Ahead, Fit, Clear, fit-limit, fit-ahead, clear-first, spot-past, reach-past}
+use Rattle.sizing.proofs.SizeLaws.{limit-small}
 use Rattle.writing.specs.declared.Begin.{Begin}
-use Rattle.writing.specs.declared.Spot.{Spot}
 use Rattle.writing.specs.Bytes.{restBytes, messageBytes, Passing}
-use Rattle.writing.specs.Places.{spot, Formed, Placing, Placed}
 use Rattle.writing.specs.Puts.{passed, bytesFrom, Writable, Wrote}
-use Rattle.writing.specs.Sizes.{reach, first}
 use Rattle.writing.proofs.PutLaws.{rest-length, message-length}
-use Rattle.writing.proofs.ReachLaws.{Ahead, Fit, Clear, fit-limit, fit-ahead, clear-first, spot-past, reach-past}
-use Rattle.writing.proofs.SizeLaws.{limit-small}
 
 -- one message, and then the others
 module _ {p : Plan} (k : Formed p) (free : ℕ) (a : At) (c : ℕ) (b : List ℕ) (bs : List (List ℕ)) (l : a .q ≤ spot p a (length b) .from) where

@@ -1,5 +1,2 @@
 pub mod AllLaws
-pub mod PlaceLaws
 pub mod PutLaws
-pub mod ReachLaws
-pub mod SizeLaws

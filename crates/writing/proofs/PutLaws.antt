@@ -25,8 +25,8 @@ use Rattle.plan.proofs.PlaceLaws.{behind-on}
 use Rattle.store.specs.Store.{Inside, Short}
 use Rattle.store.proofs.OverLaws.{drop-replicate, front-over, fill-ends}
 use Rattle.store.proofs.StoreLaws.{sets-within, lent-rest}
+use Rattle.sizing.specs.Places.{wholeOf, Formed}
 use Rattle.writing.specs.Bytes.{restBytes, headBytes, messageBytes, lastOf, Skipping, Headed, Tailing, Fitting, Passing}
-use Rattle.writing.specs.Places.{wholeOf, Formed}
 
 ---- Rests ----------------------------------------------------------------------------------------------------------------------
 

@@ -9,7 +9,7 @@ use lib.Dec.{eqb, leb}
 use Rattle.layout.specs.Field.{bytes}
 use Rattle.plan.specs.declared.Plan.{Plan}
 use Rattle.plan.specs.Place.{rests}
-use Rattle.writing.specs.Places.{wholeOf, Formed}
+use Rattle.sizing.specs.Places.{wholeOf, Formed}
 
 -- a rest of n bytes: free, but for a zero LEN where data packets may end with a rest and a header fits
 unfoldable pub restBytes : Plan → (free n : ℕ) → List ℕ

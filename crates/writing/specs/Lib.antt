@@ -1,4 +1,2 @@
 pub mod Bytes
-pub mod Places
 pub mod Puts
-pub mod Sizes

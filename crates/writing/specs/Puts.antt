@@ -10,10 +10,10 @@ use Rattle.packet.specs.Counter.{holds, next, later}
 use Rattle.packet.specs.Limit.{mostLengths, mostBytes}
 use Rattle.packet.specs.Packets.{sum, packets}
 use Rattle.plan.specs.declared.Plan.{Plan}
+use Rattle.sizing.specs.Places.{Formed, spot}
+use Rattle.sizing.specs.Sizes.{misfitAt, reach, first}
 use Rattle.writing.specs.declared.Begin.{Begin}
 use Rattle.writing.specs.Bytes.{restBytes, messageBytes}
-use Rattle.writing.specs.Places.{Formed, spot}
-use Rattle.writing.specs.Sizes.{misfitAt, reach, first}
 
 -- what is passed over from a place on to where a packet of n bytes comes to stand
 abbrev pub passed : Plan → (free : ℕ) → At → (n : ℕ) → List ℕ

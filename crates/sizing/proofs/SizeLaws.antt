@@ -12,10 +12,10 @@ use Rattle.packet.specs.declared.At.{At}
 use Rattle.packet.specs.Packets.{sum as sumOf}
 use Rattle.packet.proofs.TakeLaws.{here, none-left}
 use Rattle.plan.specs.declared.Plan.{Plan}
-use Rattle.writing.specs.declared.Spot.{Spot}
-use Rattle.writing.specs.Places.{spot, Placing, Placed}
-use Rattle.writing.specs.Sizes.{limitOf, misfit, misfitAt, reach, first, Sizable, SizedAs}
-use Rattle.writing.proofs.PlaceLaws.{picked}
+use Rattle.sizing.specs.declared.Spot.{Spot}
+use Rattle.sizing.specs.Places.{spot, Placing, Placed}
+use Rattle.sizing.specs.Sizes.{limitOf, misfit, misfitAt, reach, first, Sizable, SizedAs}
+use Rattle.sizing.proofs.PlaceLaws.{picked}
 
 -- what fits by its length is short
 pub limit-small : (p : Plan) → limitOf p ≤ p .longest

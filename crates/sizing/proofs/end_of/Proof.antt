@@ -1,7 +1,7 @@
 use borrow.Author.Needs.{needs}
 use borrow.Author.Tests.{eq-eqb, ne-eqb}
-use Rattle.writing.proofs.end_of.Statement.{statement}
-use Rattle.writing.proofs.end_of.Tie as tie
+use Rattle.sizing.proofs.end_of.Statement.{statement}
+use Rattle.sizing.proofs.end_of.Tie as tie
 
 stream : tie.Need-returns
 stream c = rw (eq-eqb _ 2 (c .before .if1 .taken)) (c .streamed .ensures)

@@ -9,8 +9,8 @@ use Rattle.packet.specs.declared.At.{At}
 use Rattle.packet.specs.Limit.{mostLengths}
 use Rattle.packet.specs.Packets.{sum as sumOf}
 use Rattle.plan.specs.declared.Plan.{Plan}
-use Rattle.writing.specs.declared.Sized.{Sized}
-use Rattle.writing.specs.Places.{Formed, spot}
+use Rattle.sizing.specs.declared.Sized.{Sized}
+use Rattle.sizing.specs.Places.{Formed, spot}
 
 -- the longest packet that fits by its length: in single and multiple packing its message fits a data packet
 abbrev pub limitOf : Plan → ℕ

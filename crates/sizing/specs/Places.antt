@@ -7,7 +7,7 @@ use Rattle.packet.specs.declared.At.{At}
 use Rattle.plan.specs.declared.Plan.{Plan}
 use Rattle.plan.specs.Place.{headerAt, behindAt, streamedAt}
 use Rattle.plan.specs.Plan.{Sized}
-use Rattle.writing.specs.declared.Spot.{Spot}
+use Rattle.sizing.specs.declared.Spot.{Spot}
 
 -- a message's bytes, by its packet's: header, packet, tail
 abbrev pub wholeOf : Plan → ℕ → ℕ

@@ -5,9 +5,9 @@ use native.Mathlib.Omega.{arith}
 use mathlib.Core.Path.{sym, _∙_}
 use lib.ListN.{length}
 use borrow.Author.Needs.{needs}
-use Rattle.writing.proofs.SizeLaws.{Sizing, sizing, size-done, size-long, short, placing, size-past, size-next}
-use Rattle.writing.proofs.size_loop.Statement.{statement}
-use Rattle.writing.proofs.size_loop.Tie as tie
+use Rattle.sizing.proofs.SizeLaws.{Sizing, sizing, size-done, size-long, short, placing, size-past, size-next}
+use Rattle.sizing.proofs.size_loop.Statement.{statement}
+use Rattle.sizing.proofs.size_loop.Tie as tie
 
 abbrev Inv-loop : tie.InvT-loop
 Inv-loop layout lenwidth ctrwidth size align q lengths p limit a₀ sum₀ i₀ a sum i = Sizing p q lengths a sum i

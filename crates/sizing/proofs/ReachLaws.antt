@@ -16,9 +16,9 @@ use Rattle.plan.specs.declared.Plan.{Plan}
 use Rattle.plan.specs.Place.{streamedAt}
 use Rattle.plan.proofs.CaseLaws.{by-test, by-less}
 use Rattle.plan.proofs.PlaceLaws.{streamed-past}
-use Rattle.writing.specs.declared.Spot.{Spot}
-use Rattle.writing.specs.Places.{wholeOf, crossesAt, standing, spot, Formed}
-use Rattle.writing.specs.Sizes.{limitOf, misfit, misfitAt, reach}
+use Rattle.sizing.specs.declared.Spot.{Spot}
+use Rattle.sizing.specs.Places.{wholeOf, crossesAt, standing, spot, Formed}
+use Rattle.sizing.specs.Sizes.{limitOf, misfit, misfitAt, reach}
 
 ---- One message ----------------------------------------------------------------------------------------------------------------
 

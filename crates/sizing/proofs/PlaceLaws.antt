@@ -11,7 +11,7 @@ use Rattle.plan.specs.Place.{headerAt, Beyond, Streaming}
 use Rattle.plan.specs.Plan.{Sized}
 use Rattle.plan.proofs.CaseLaws.{by-test}
 use Rattle.plan.proofs.PlaceLaws.{streamed-on}
-use Rattle.writing.specs.Places.{wholeOf, crossesAt, endAt, spot, Formed, Reaching, Placing, Placed}
+use Rattle.sizing.specs.Places.{wholeOf, crossesAt, endAt, spot, Formed, Reaching, Placing, Placed}
 
 -- one of two numbers is not above both
 pub picked : (b : Bool) {x y r m : ℕ} → r ≡ cond b x y → x ≤ m → y ≤ m → r ≤ m

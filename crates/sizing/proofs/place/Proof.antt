@@ -1,7 +1,7 @@
 -- At its place, or at the start of the next data packet.
-use Rattle.writing.proofs.PlaceLaws.{places}
-use Rattle.writing.proofs.place.Statement.{statement}
-use Rattle.writing.proofs.place.Tie as tie
+use Rattle.sizing.proofs.PlaceLaws.{places}
+use Rattle.sizing.proofs.place.Statement.{statement}
+use Rattle.sizing.proofs.place.Tie as tie
 
 pub place-spec : {M : Type 1} → statement M
 place-spec =

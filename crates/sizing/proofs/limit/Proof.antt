@@ -1,7 +1,7 @@
 use borrow.Author.Needs.{needs}
 use borrow.Author.Tests.{lt-ltb, le-ltb}
-use Rattle.writing.proofs.limit.Statement.{statement}
-use Rattle.writing.proofs.limit.Tie as tie
+use Rattle.sizing.proofs.limit.Statement.{statement}
+use Rattle.sizing.proofs.limit.Tie as tie
 
 packed : tie.Need-returns
 packed c = rw (lt-ltb _ 2 (c .before .before .if1 .taken)) (c .least .ensures)

@@ -1,9 +1,9 @@
 use native.Mathlib.Omega.{arith}
 use borrow.Author.Needs.{needs}
 use lib.Dec.{eqb}
-use Rattle.writing.proofs.PlaceLaws.{picked}
-use Rattle.writing.proofs.crosses.Statement.{statement}
-use Rattle.writing.proofs.crosses.Tie as tie
+use Rattle.sizing.proofs.PlaceLaws.{picked}
+use Rattle.sizing.proofs.crosses.Statement.{statement}
+use Rattle.sizing.proofs.crosses.Tie as tie
 
 fits : tie.Need-add-reach
 fits c =
