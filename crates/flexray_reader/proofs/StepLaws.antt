@@ -19,9 +19,9 @@ use Rattle.flexray.proofs.ReadLaws.{forward}
 use Rattle.flexray_plan.specs.Plan.{setting, furtherOf}
 use Rattle.reading.specs.Loops.{Standing}
 use Rattle.reading.specs.Reads.{Tells}
-use Rattle.reading.specs.Step.{head, len, View, View.rest, View.empty, View.nothing, View.over, View.past, View.message}
+use Rattle.reading.specs.Step.{head, len}
 use Rattle.reading.specs.Step.{seen as seenBy}
-use Rattle.reading.proofs.ViewLaws.{view}
+use Rattle.reading.proofs.ViewLaws.{View, View.rest, View.empty, View.nothing, View.over, View.past, View.message, view}
 
 -- a place is the end of a packet, and the frame is one data packet
 pub record Stands (t : List ℕ) (a : At) : Type 0 where

@@ -16,10 +16,9 @@ use Rattle.plan.specs.declared.Plan.{Plan}
 use Rattle.plan.specs.Place.{rests, headerAt, behindAt, nextPacket, onAt, Beyond}
 use Rattle.plan.proofs.CaseLaws.{by-test}
 use Rattle.plan.proofs.PlaceLaws.{rests-true}
-use Rattle.reading.specs.Step.{lenAt, head, len, there, nextAt, seen, Says, View}
-use Rattle.reading.specs.Step.{View.rest, View.empty, View.nothing, View.over, View.past, View.message}
+use Rattle.reading.specs.Step.{lenAt, head, len, there, nextAt, seen, Says}
 use Rattle.reading.specs.Loops.{Header, Len, Findable, FoundAs, Ahead, Going, Finds}
-use Rattle.reading.proofs.ViewLaws.{view}
+use Rattle.reading.proofs.ViewLaws.{View, View.rest, View.empty, View.nothing, View.over, View.past, View.message, view}
 
 -- where LEN is read, the header lies inside the input; so LEN is what the step sees, and tells whether it sees a rest or a message
 record Turn (p : Plan) (t : List ℕ) (a : At) : Type 0 where

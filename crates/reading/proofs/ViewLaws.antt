@@ -11,17 +11,26 @@ use borrow.Author.Tests.{ltb-true, ltb-false, leb-true, eqb-true, eqb-false, not
 use Rattle.layout.proofs.TestLaws.{and-left, and-right}
 use Rattle.packet.specs.declared.At.{At}
 use Rattle.packet.specs.declared.Found.{Found}
+use Rattle.packet.specs.declared.Seen.{Seen}
 use Rattle.packet.specs.declared.Seen.the-variants as S
 use Rattle.plan.specs.declared.Plan.{Plan}
-use Rattle.plan.specs.Place.{rests}
+use Rattle.plan.specs.Place.{rests, nextPacket}
 use Rattle.plan.proofs.CaseLaws.{by-test}
 use Rattle.plan.proofs.PlaceLaws.{rests-true, rests-some, header-on, behind-on, on-by, streamed-on}
-use Rattle.reading.specs.Step.{bareBy, messageBy, head, len, next, limit, there, nextAt, seen, Says, View}
-use Rattle.reading.specs.Step.{View.rest, View.empty, View.nothing, View.over, View.past, View.message}
+use Rattle.reading.specs.Step.{bareBy, messageBy, head, len, next, limit, there, nextAt, seen, Says}
 use Rattle.reading.specs.Loops.{Standing}
 use Rattle.reading.specs.Reads.{turns}
 
 module _ (p : Plan) (t : List ℕ) (a : At) where
+  pub data View : Seen → Type 0 where
+    rest : 0 < p .layout → p .layout < 3 → len p t a ≡ 0 → a .end < length t → View (S.Rest (nextPacket p a))
+    empty : p .layout ≡ 0 → len p t a ≡ 0 → a .q < length t → View (S.Refused 6 (a .q))
+    nothing : len p t a ≡ 0 → (0 < p .layout → p .layout < 3 → length t ≤ a .end) → (p .layout ≡ 0 → length t ≤ a .q) → View S.Nothing
+    over : Says p t a → (p .layout ≡ 3 → ⊥) → p .longest < len p t a → View (S.Refused 3 (head p t a))
+    past : Says p t a → ((p .layout ≡ 3 → ⊥) → len p t a ≤ p .longest) → limit p t a < next p t a → View (S.Refused 5 (head p t a))
+    message : Says p t a → ((p .layout ≡ 3 → ⊥) → len p t a ≤ p .longest) → next p t a ≤ limit p t a
+        → View (S.Message (there p t a) (nextAt p t a))
+
   -- a length that is not 0 stands in a header that fits
   pub says : (len p t a ≡ 0 → ⊥) → Says p t a
   says z =
@@ -34,7 +43,7 @@ module _ (p : Plan) (t : List ℕ) (a : At) where
   short n g h = ltb-false (p .longest) n (rw (ne-eqb (p .layout) 3 h) at g)
 
   -- where LEN is 0 or no header fits, and where it says a length
-  bare : len p t a ≡ 0 → View p t a (bareBy (rests p && ltb (a .end) (length t)) (eqb (p .layout) 0 && ltb (a .q) (length t)) p a)
+  bare : len p t a ≡ 0 → View (bareBy (rests p && ltb (a .end) (length t)) (eqb (p .layout) 0 && ltb (a .q) (length t)) p a)
   bare n =
       by-test (rests p && ltb (a .end) (length t))
       (λ r. let (l, u) = rests-some p (and-left _ _ r) in rw r (rest l u n (ltb-true _ _ (and-right (rests p) _ r))))
@@ -42,7 +51,7 @@ module _ (p : Plan) (t : List ℕ) (a : At) where
       (λ e. rw (r, e) (empty (eqb-true _ _ (and-left _ _ e)) n (ltb-true _ _ (and-right (eqb (p .layout) 0) _ e))))
       (λ e. rw (r, e) (nothing n (λ l u. ltb-false _ _ (rw (rests-true p l u) at r)) (λ h. ltb-false _ _ (rw (eq-eqb (p .layout) 0 h) at e)))))
 
-  said : Says p t a → View p t a (messageBy (not (eqb (p .layout) 3) && ltb (p .longest) (len p t a)) (ltb (limit p t a) (next p t a))
+  said : Says p t a → View (messageBy (not (eqb (p .layout) 3) && ltb (p .longest) (len p t a)) (ltb (limit p t a) (next p t a))
       (head p t a) (there p t a) (nextAt p t a))
   said h =
       by-test (not (eqb (p .layout) 3) && ltb (p .longest) (len p t a))
@@ -50,7 +59,7 @@ module _ (p : Plan) (t : List ℕ) (a : At) where
       (λ o. by-test (ltb (limit p t a) (next p t a)) (λ q. rw (o, q) (past h (short _ o) (ltb-true _ _ q)))
       (λ q. rw (o, q) (message h (short _ o) (ltb-false _ _ q))))
 
-  pub view : View p t a (seen p t a)
+  pub view : View (seen p t a)
   unfolding seen
   view = by-test (eqb (len p t a) 0) (λ z. rw z (bare (eqb-true _ _ z))) (λ z. rw z (said (says (eqb-false _ _ z))))
 

@@ -11,10 +11,10 @@ use Rattle.packet.specs.declared.Seen.the-variants as S
 use Rattle.packet.specs.Message.{Msg}
 use Rattle.packet.specs.Seen.{message}
 use Rattle.plan.specs.declared.Plan.{Plan}
-use Rattle.reading.specs.Step.{seen, View}
+use Rattle.reading.specs.Step.{seen}
 use Rattle.reading.specs.Reads.{then, goes, turns, reads, Tells}
 use Rattle.reading.specs.Loops.{Standing}
-use Rattle.reading.proofs.ViewLaws.{view, Moved, Crossed, crosses, passes}
+use Rattle.reading.proofs.ViewLaws.{View, view, Moved, Crossed, crosses, passes}
 
 -- a turn: the place behind a message or a rest, and what is read from there on
 pub record Crossing (p : Plan) (t : List ℕ) (a : At) (m : Found) (b : At) : Type 0 where

@@ -59,18 +59,8 @@ module _ (p : Plan) (t : List ℕ) (a : At) where
       cond (eqb len 0) (bareBy (rests p && ltb (a .end) (length t)) (eqb (p .layout) 0 && ltb (a .q) (length t)) p a)
       (messageBy (not (eqb (p .layout) 3) && ltb (p .longest) len) (ltb limit next) head there nextAt)
 
-  ---- The same by cases --------------------------------------------------------------------------------------------------------
-
   -- a header that fits, and says a length
   pub record Says : Type 0 where
     pub fits : head + p .size ≤ min (a .end) (length t)
     pub is : len ≡ numberAt (p .lenwidth) t head
     pub some : 0 < len
-
-  pub data View : Seen → Type 0 where
-    rest : 0 < p .layout → p .layout < 3 → len ≡ 0 → a .end < length t → View (S.Rest (nextPacket p a))
-    empty : p .layout ≡ 0 → len ≡ 0 → a .q < length t → View (S.Refused 6 (a .q))
-    nothing : len ≡ 0 → (0 < p .layout → p .layout < 3 → length t ≤ a .end) → (p .layout ≡ 0 → length t ≤ a .q) → View S.Nothing
-    over : Says → (p .layout ≡ 3 → ⊥) → p .longest < len → View (S.Refused 3 head)
-    past : Says → ((p .layout ≡ 3 → ⊥) → len ≤ p .longest) → limit < next → View (S.Refused 5 head)
-    message : Says → ((p .layout ≡ 3 → ⊥) → len ≤ p .longest) → next ≤ limit → View (S.Message there nextAt)

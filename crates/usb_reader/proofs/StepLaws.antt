@@ -31,11 +31,10 @@ use Rattle.usb.proofs.LaidLaws.{forward}
 use Rattle.usb_plan.specs.Plan.{setting, Ready}
 use Rattle.reading.specs.Loops.{Standing}
 use Rattle.reading.specs.Reads.{Tells}
-use Rattle.reading.specs.Step.{head, len, next, limit, there, nextAt, Says, View}
-use Rattle.reading.specs.Step.{View.rest, View.empty, View.nothing, View.over, View.past}
-use Rattle.reading.specs.Step.{View.message as fitting}
+use Rattle.reading.specs.Step.{head, len, next, limit, there, nextAt, Says}
 use Rattle.reading.specs.Step.{seen as seenBy}
-use Rattle.reading.proofs.ViewLaws.{view}
+use Rattle.reading.proofs.ViewLaws.{View, View.rest, View.empty, View.nothing, View.over, View.past, view}
+use Rattle.reading.proofs.ViewLaws.{View.message as fitting}
 
 -- a place stands in or behind the data packet that ends at a cut, and at a multiple of the alignment; in single packing at its start
 pub record Stands (p : Plan) (a : At) : Type 0 where
