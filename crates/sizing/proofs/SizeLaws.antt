@@ -32,6 +32,13 @@ pub record Sizing (p : Plan) (q : ℕ) (ns : List ℕ) (a : At) (sum i : ℕ) : 
   pub near : a .q ≤ 4 + i * 66600
   pub end : a .end ≤ a .q + p .datapacket
 
+-- .. and the length n at i is neither 0 nor too long
+pub record Turn (p : Plan) (q : ℕ) (ns : List ℕ) (a : At) (sum i n : ℕ) : Type 0 where
+  pub sizing : Sizing p q ns a sum i
+  pub here : i < length ns
+  pub is : n ≡ getD ns i 0
+  pub short : eqb n 0 || ltb (limitOf p) n ≡ false
+
 module _ {p : Plan} {q : ℕ} {ns : List ℕ} where
   pub sizing : Sizable p q ns → Sizing p q ns (first q) 0 0
   sizing k =
@@ -47,9 +54,6 @@ module _ {p : Plan} {q : ℕ} {ns : List ℕ} where
       }
 
   module _ {a : At} {sum i : ℕ} (s : Sizing p q ns a sum i) where
-    abbrev k : Sizable p q ns
-    k = s .sizable
-
     pub size-done : length ns ≤ i → SizedAs p q ns (record { taken = i; sum = sum; behind = a })
     unfolding misfitAt reach
     size-done h =
@@ -69,37 +73,47 @@ module _ {p : Plan} {q : ℕ} {ns : List ℕ} where
         pub size-long : eqb n 0 || ltb limit n ≡ true → SizedAs p q ns (record { taken = i; sum = sum; behind = a })
         size-long f = let x : eqb n 0 || ltb (limitOf p) n ≡ true = rw v at f in size-stops (rw x)
 
-        module _ (f : eqb n 0 || ltb limit n ≡ false) where
-          pub short : n < 65536
-          short =
-              let x : ltb limit n ≡ false = or-right (eqb n 0) (ltb limit n) f in
-              omega (arith, ltb-false limit n x, limit-small p, k .formed .longest-most)
+        pub turning : eqb n 0 || ltb limit n ≡ false → Turn p q ns a sum i n
+        turning f = record { sizing = s; here = h; is = e; short = rw v at f }
 
-          pub placing : Placing p a n
-          placing = record { formed = k .formed; small = short; near = omega (arith, s .near, k .few); end = s .end }
+module _ {p : Plan} {q : ℕ} {ns : List ℕ} {a : At} {sum i n : ℕ} (u : Turn p q ns a sum i n) where
+  abbrev s : Sizing p q ns a sum i
+  s = u .sizing
 
-          module _ {d : Spot} (x : Placed p a n d) where
-            test : {b : Bool} → eqb (p .layout) 3 && ltb (p .datapacket) (d .next .q) ≡ b → misfit p a n ≡ b
-            test y = let w : eqb n 0 || ltb (limitOf p) n ≡ false = rw v at f in rw w (rw (x .is) at y)
+  abbrev k : Sizable p q ns
+  k = s .sizable
 
-            pub size-past : eqb (p .layout) 3 && ltb (p .datapacket) (d .next .q) ≡ true
-                → SizedAs p q ns (record { taken = i; sum = sum; behind = a })
-            size-past y = size-stops (test y)
+  pub small : n < 65536
+  small =
+      let x : ltb (limitOf p) n ≡ false = or-right (eqb n 0) (ltb (limitOf p) n) (u .short) in
+      omega (arith, ltb-false (limitOf p) n x, limit-small p, k .formed .longest-most)
 
-            pub size-next : eqb (p .layout) 3 && ltb (p .datapacket) (d .next .q) ≡ false → Sizing p q ns (d .next) (sum + n) (i + 1)
-            unfolding misfitAt reach
-            size-next y =
-                let m : misfitAt p (first q) ns ≡ i + suc (misfitAt p (spot p a n .next) (drop (i + 1) ns)) = s .index ∙ rw (here ns i h e, test y) in
-                let t : sumOf ns ≡ sum + (n + sumOf (drop (i + 1) ns)) = s .total ∙ rw (here ns i h e) in
-                let j : d .next ≡ spot p a n .next = ap (λ w. w .next) (x .is) in
-                let z = k .formed .sized in
-                record {
-                  sizable = k;
-                  few = omega arith;
-                  index = rw j (omega arith);
-                  reach = s .reach ∙ rw (here ns i h e, j);
-                  total = omega arith;
-                  small = omega (arith, s .small, short);
-                  near = omega (arith, s .near, x .start, x .near, short, z .cut-most, z .size-most);
-                  end = x .end;
-                }
+  pub placing : Placing p a n
+  placing = record { formed = k .formed; small = small; near = omega (arith, s .near, k .few, u .here); end = s .end }
+
+  module _ {d : Spot} (x : Placed p a n d) where
+    test : {b : Bool} → eqb (p .layout) 3 && ltb (p .datapacket) (d .next .q) ≡ b → misfit p a n ≡ b
+    test y = rw (u .short) (rw (x .is) at y)
+
+    pub size-past : eqb (p .layout) 3 && ltb (p .datapacket) (d .next .q) ≡ true
+        → SizedAs p q ns (record { taken = i; sum = sum; behind = a })
+    size-past y = size-stops s (u .here) (u .is) (test y)
+
+    pub size-next : eqb (p .layout) 3 && ltb (p .datapacket) (d .next .q) ≡ false → Sizing p q ns (d .next) (sum + n) (i + 1)
+    unfolding misfitAt reach
+    size-next y =
+        let on = here ns i (u .here) (u .is) in
+        let m : misfitAt p (first q) ns ≡ i + suc (misfitAt p (spot p a n .next) (drop (i + 1) ns)) = s .index ∙ rw (on, test y) in
+        let t : sumOf ns ≡ sum + (n + sumOf (drop (i + 1) ns)) = s .total ∙ rw on in
+        let j : d .next ≡ spot p a n .next = ap (λ w. w .next) (x .is) in
+        let z = k .formed .sized in
+        record {
+          sizable = k;
+          few = omega (arith, u .here);
+          index = rw j (omega arith);
+          reach = s .reach ∙ rw (on, j);
+          total = omega arith;
+          small = omega (arith, s .small, small);
+          near = omega (arith, s .near, x .start, x .near, small, z .cut-most, z .size-most);
+          end = x .end;
+        }
