@@ -13,13 +13,15 @@
 
 enum { SINGLE, MULTIPLE, STREAMING };
 enum { LONGEST = 56 }; /* of a packet, for a text */
-enum { TRANSFER = 262144, LENGTHS = 4096, ROWS = 131072, FRAMES = 1032, FRAME = 254, FILL = 0xEE };
+enum { TRANSFER = 262144, LENGTHS = 4096, ROWS = 131072, FRAMES = 1032, FRAME = 254, DATAGRAMS = 178, DATAGRAM = 1472, FILL = 0xEE };
 enum { OURS, IDIOMATIC, TUNED, COPY, MEMCPY, LEAST, WAYS };
 enum { READER = IDIOMATIC, TOKENIZER = TUNED }; /* for a text */
 enum { BASIC = 1 << OURS | 1 << IDIOMATIC | 1 << TUNED | 1 << MEMCPY, READS = BASIC | 1 << COPY, WRITES = READS | 1 << LEAST };
 enum { MOST_ROUNDS = 4000, SAMPLE = 100000 }; /* SAMPLE: least nanoseconds of one timed run */
 enum { PASSES = 7, MOST_LINES = 128 };
-enum { COUNTED = 100, COUNTED_BYTES = 20000, COUNTED_FRAMES = 4 }; /* of these the instructions are counted */
+enum { COUNTED = 100, COUNTED_BYTES = 20000, COUNTED_PARTS = 4 }; /* of these the instructions are counted */
+
+typedef enum { USB, FLEXRAY, UDP } transport;
 
 typedef struct {
     xcp_read (*usb_read)(xcp_usb_setting, const uint8_t *, size_t, xcp_counter, uint32_t *, size_t);
@@ -28,22 +30,45 @@ typedef struct {
     xcp_read (*flexray_read)(xcp_flexray_setting, const uint8_t *, size_t, xcp_counter, uint32_t *, size_t);
     xcp_written (*flexray_write)(xcp_flexray_setting, const uint8_t *, size_t, const uint32_t *, size_t, uint32_t, uint8_t,
                                  uint8_t *, size_t);
+    xcp_read (*udp_read)(xcp_udp_setting, const uint8_t *, size_t, xcp_counter, uint32_t *, size_t);
+    xcp_written (*udp_write)(xcp_udp_setting, const uint8_t *, size_t, const uint32_t *, size_t, uint32_t, uint8_t *, size_t);
 } implementation;
 
-static const implementation ways[4] = {
-    {xcp_usb_read, xcp_usb_write, xcp_flexray_read, xcp_flexray_write},
-    {idiomatic_usb_read, idiomatic_usb_write, idiomatic_flexray_read, idiomatic_flexray_write},
-    {tuned_usb_read, tuned_usb_write, tuned_flexray_read, tuned_flexray_write},
-    {copy_usb_read, copy_usb_write, copy_flexray_read, copy_flexray_write},
-};
+#define WAY(name) \
+    {name##_usb_read, name##_usb_write, name##_flexray_read, name##_flexray_write, name##_udp_read, name##_udp_write}
 
-/* What is measured: frames, or transfers, one behind another in `transfer`; `lengths` and `packets` are those of all. */
+static const implementation ways[4] = {WAY(xcp), WAY(idiomatic), WAY(tuned), WAY(copy)};
+
+/* What is measured: frames, datagrams or transfers, one behind another in `transfer`; `lengths` and `packets` are those of all. */
 static struct {
     xcp_usb_setting usb;
     xcp_flexray_setting flexray;
-    size_t n, count, bytes, parts;                              /* all bytes laid out, all packets, their bytes; frames, transfers */
+    xcp_udp_setting udp;
+    size_t n, count, bytes, parts;                              /* all bytes laid out, all packets, their bytes; frames and the like */
     uint32_t in[FRAMES], length_of[FRAMES], bytes_of[FRAMES];   /* of each: its packets, its bytes, its packets' bytes */
 } it;
+
+/* A call with the setting of `it`. */
+
+static xcp_read read_by(const implementation *f, transport by, const uint8_t *t, size_t n, xcp_counter c, uint32_t *rows,
+                        size_t numbers)
+{
+    switch (by) {
+    case FLEXRAY: return f->flexray_read(it.flexray, t, n, c, rows, numbers);
+    case UDP: return f->udp_read(it.udp, t, n, c, rows, numbers);
+    default: return f->usb_read(it.usb, t, n, c, rows, numbers);
+    }
+}
+
+static xcp_written write_by(const implementation *f, transport by, const uint8_t *p, size_t n, const uint32_t *l, size_t count,
+                            uint32_t first, uint32_t fill_up, uint8_t *out, size_t room)
+{
+    switch (by) {
+    case FLEXRAY: return f->flexray_write(it.flexray, p, n, l, count, first, FILL, out, room);
+    case UDP: return f->udp_write(it.udp, p, n, l, count, first, out, room);
+    default: return f->usb_write(it.usb, p, n, l, count, first, FILL, fill_up, out, room);
+    }
+}
 
 /* Each array starts behind a page's start by an offset, another one in each pass: of the bytes that are read, of those that are
    written, and of lengths and rows. */
@@ -112,14 +137,13 @@ static int same_written(xcp_written a, xcp_written b)
     return a.number == b.number && a.value == b.value && a.counter == b.counter;
 }
 
-/* Reads in all three ways: answers and whole tables, behind the rows too. flexray 0: USB. */
-static int agree_read(int flexray, const uint8_t *t, size_t n, xcp_counter c, size_t numbers, size_t table, xcp_read *answer)
+/* Reads in all three ways: answers and whole tables, behind the rows too. */
+static int agree_read(transport by, const uint8_t *t, size_t n, xcp_counter c, size_t numbers, size_t table, xcp_read *answer)
 {
     xcp_read r[3];
     for (int w = 0; w < 3; w++) {
         memset(tables[w], 0xA5, table * sizeof *tables[w]);
-        r[w] = flexray ? ways[w].flexray_read(it.flexray, t, n, c, tables[w], numbers)
-                       : ways[w].usb_read(it.usb, t, n, c, tables[w], numbers);
+        r[w] = read_by(&ways[w], by, t, n, c, tables[w], numbers);
     }
     *answer = r[0];
     for (int w = 1; w < 3; w++)
@@ -128,14 +152,13 @@ static int agree_read(int flexray, const uint8_t *t, size_t n, xcp_counter c, si
     return 1;
 }
 
-static int agree_write(int flexray, const uint8_t *p, size_t n, const uint32_t *l, size_t count, uint32_t first,
+static int agree_write(transport by, const uint8_t *p, size_t n, const uint32_t *l, size_t count, uint32_t first,
                        uint32_t fill_up, size_t room, size_t whole, xcp_written *answer)
 {
     xcp_written r[3];
     for (int w = 0; w < 3; w++) {
         memset(outs[w], 0x5A, whole);
-        r[w] = flexray ? ways[w].flexray_write(it.flexray, p, n, l, count, first, FILL, outs[w], room)
-                       : ways[w].usb_write(it.usb, p, n, l, count, first, FILL, fill_up, outs[w], room);
+        r[w] = write_by(&ways[w], by, p, n, l, count, first, fill_up, outs[w], room);
     }
     *answer = r[0];
     for (int w = 1; w < 3; w++)
@@ -144,8 +167,8 @@ static int agree_write(int flexray, const uint8_t *p, size_t n, const uint32_t *
     return 1;
 }
 
-/* Settings, sound and not. */
-static void random_settings(void)
+/* A setting, sound or not. */
+static void random_setting(transport by)
 {
     static const uint32_t pairs[12][2] = {{0, 1}, {1, 2}, {2, 4}, {3, 1}, {3, 2}, {4, 4}, {5, 1}, {5, 2}, {6, 4}, {7, 1},
                                           {8, 2}, {8, 4}};
@@ -153,22 +176,30 @@ static void random_settings(void)
     it.usb = (xcp_usb_setting){header, random_below(3), 1u << random_below(4), 8 * random_from(1, random_below(4) ? 12 : 128),
                                random_from(8, header < 3 ? 255 : random_below(4) ? 300 : 3000), random_below(2)};
     it.flexray = (xcp_flexray_setting){random_below(256), random_below(2), 2 * random_from(4, 127), pairs[pair][0], pairs[pair][1]};
+    it.udp = (xcp_udp_setting){random_from(random_below(4) ? 1400 : 8, 1468), random_below(2)};
     if (random_below(16) == 0) {
-        uint32_t *fields[11] = {&it.usb.header, &it.usb.packing, &it.usb.align, &it.usb.data_packet, &it.usb.longest,
-                                &it.usb.direction, &it.flexray.node, &it.flexray.direction, &it.flexray.ceiling,
-                                &it.flexray.header, &it.flexray.align};
-        *fields[random_below(11)] = random_below(4) == 0 ? 0u - random_below(3) : random_below(300);
+        uint32_t *fields[] = {&it.usb.header, &it.usb.packing, &it.usb.align, &it.usb.data_packet, &it.usb.longest,
+                              &it.usb.direction, &it.flexray.node, &it.flexray.direction, &it.flexray.ceiling,
+                              &it.flexray.header, &it.flexray.align, &it.udp.longest, &it.udp.direction};
+        static const uint32_t from[] = {0, 6, 11, 13}; /* where the fields of a transport start */
+        *fields[random_from(from[by], from[by + 1] - 1)] =
+            random_below(4) == 0 ? 0u - random_below(3) : random_below(random_below(2) ? 300 : 3000);
     }
 }
 
-/* Gives the sum of the lengths. */
-static uint32_t random_lengths(uint32_t count, int flexray)
+/* Gives the sum of the lengths. A datagram is in one of four cases about as long as it may be. */
+static uint32_t random_lengths(uint32_t count, transport by)
 {
     uint32_t most = 1u << random_below(7), sum = 0;
     if (random_below(8) == 0)
-        most = flexray ? 250 : random_below(2) ? 255 : 3000;
+        most = by == FLEXRAY ? 250 : random_below(2) ? 255 : 3000;
     for (uint32_t k = 0; k < count; k++)
-        sum += lengths[k] = random_from(random_below(40) != 0, most);
+        sum += lengths[k] = random_from(random_below(count < 24 ? 40 : 400) != 0, most);
+    if (by == UDP && count != 0 && random_below(4) == 0) {
+        uint32_t others = sum - lengths[count - 1], about = random_from(DATAGRAM - 3, DATAGRAM + 3);
+        if (others + 4 * count < about)
+            sum = others + (lengths[count - 1] = about - others - 4 * count);
+    }
     return sum;
 }
 
@@ -177,33 +208,34 @@ static uint32_t random_lengths(uint32_t count, int flexray)
 static unsigned differing(unsigned cases, unsigned *refused)
 {
     enum { ROOM = 16384, NUMBERS = 20000 };
+    static const transport turns[4] = {USB, USB, FLEXRAY, UDP};
     unsigned differ = 0;
     *refused = 0;
     for (unsigned i = 0; i < cases; i++) {
-        int flexray = i % 3 == 2;
+        transport by = turns[i % 4];
         place_arrays((int)(i % PASSES));
-        random_settings();
-        uint32_t count = random_below(flexray ? 4 : 24);
-        if (flexray && !random_below(2))
-            count = 1;
-        uint32_t sum = random_lengths(count, flexray);
+        random_setting(by);
+        uint32_t count = random_below(by == FLEXRAY ? 4 : 24);
+        if (by != USB && !random_below(2))
+            count = by == FLEXRAY ? 1 : random_below(200);
+        uint32_t sum = random_lengths(count, by);
         size_t room = random_below(8) ? ROOM : random_below(300);
         uint32_t first = random_below(8) ? random_below(256) : random_below(70000);
         xcp_written w;
         const uint8_t *p = packets + random_below(TRANSFER / 2);
-        if (!agree_write(flexray, p, sum + (random_below(30) == 0), lengths, count, first, random_below(2), room, ROOM + 100, &w))
+        if (!agree_write(by, p, sum + (random_below(30) == 0), lengths, count, first, random_below(2), room, ROOM + 100, &w))
             differ++;
         *refused += w.number != 0;
 
-        size_t n = w.number == 0 ? w.value : random_below(300);
+        size_t n = w.number == 0 ? w.value : random_below(16) ? random_below(300) : random_from(DATAGRAM - 3, DATAGRAM + 3);
         memcpy(transfer, w.number == 0 ? outs[0] : p, n);
         if (n != 0 && random_below(2))
-            transfer[random_below((uint32_t)n)] = (uint8_t)random_below(random_below(2) ? 8 : 256);
+            transfer[random_below((uint32_t)n)] = (uint8_t)random_below(random_below(2) ? random_from(1, 8) : 256);
         if (n != 0 && random_below(4) == 0)
             n -= random_below(n < 9 ? (uint32_t)n : 9);
         xcp_counter c = {random_below(3), random_below(8) ? first : random_below(70000)};
         xcp_read r;
-        if (!agree_read(flexray, transfer, n, c, random_below(8) ? NUMBERS : random_below(60), NUMBERS, &r))
+        if (!agree_read(by, transfer, n, c, random_below(8) ? NUMBERS : random_below(60), NUMBERS, &r))
             differ++;
         *refused += r.number != 0;
     }
@@ -242,13 +274,30 @@ static unsigned differing_texts(unsigned cases, unsigned *refused)
 /* Making what is measured. */
 
 /* Writes the next packets, as many as lengths[it.count..] names, behind what was made. */
-static xcp_written append(size_t count, uint32_t ctr, int fill_up, size_t *bytes)
+static xcp_written append(transport by, size_t count, uint32_t ctr, int fill_up, size_t *bytes)
 {
     *bytes = 0;
     for (size_t i = 0; i < count; i++)
         *bytes += lengths[it.count + i];
-    return xcp_usb_write(it.usb, packets + it.bytes, *bytes, lengths + it.count, count, ctr, FILL, (uint32_t)fill_up,
-                         transfer + it.n, TRANSFER - it.n);
+    return write_by(&ways[OURS], by, packets + it.bytes, *bytes, lengths + it.count, count, ctr, (uint32_t)fill_up,
+                    transfer + it.n, TRANSFER - it.n);
+}
+
+/* The same, as one of many frames, datagrams or transfers. */
+static int append_part(transport by, size_t count, uint32_t *ctr)
+{
+    size_t bytes;
+    xcp_written w = append(by, count, *ctr, 0, &bytes);
+    if (w.number != 0)
+        return 0;
+    it.in[it.parts] = (uint32_t)count;
+    it.bytes_of[it.parts] = (uint32_t)bytes;
+    it.length_of[it.parts++] = w.value;
+    it.count += count;
+    it.bytes += bytes;
+    it.n += w.value;
+    *ctr = w.counter;
+    return 1;
 }
 
 /* Draws lengths until a write or the packets' bytes are full, and gives how many of them fit behind what was made. */
@@ -263,7 +312,7 @@ static size_t draw_fitting(uint32_t least, uint32_t most, uint32_t ctr, int fill
         bytes += n;
     }
     for (size_t step = LENGTHS; step != 0; step /= 2)
-        if (fits + step <= count && append(fits + step, ctr, fill_up, &sum).number == 0)
+        if (fits + step <= count && append(USB, fits + step, ctr, fill_up, &sum).number == 0)
             fits += step;
     return fits;
 }
@@ -280,7 +329,7 @@ static int make_usb(xcp_usb_setting s, uint32_t least, uint32_t most, int joined
         size_t bytes, fits = draw_fitting(least, most, ctr, joined);
         if (fits == 0)
             break;
-        xcp_written w = append(fits, ctr, joined, &bytes);
+        xcp_written w = append(USB, fits, ctr, joined, &bytes);
         if (w.number != 0)
             return 0;
         it.n += w.value;
@@ -294,33 +343,25 @@ static int make_usb(xcp_usb_setting s, uint32_t least, uint32_t most, int joined
     return it.count != 0;
 }
 
-/* Frames of up to 254 bytes, with LEN: packets until none fits, the last one cut to fit. */
-static int make_flexray(xcp_flexray_setting s, uint32_t size, uint32_t least, uint32_t most)
+/* How many frames or datagrams, and their most bytes; where the first packet stands. A further one stands `between` bytes behind the end
+   of the one before, or less, so that its place is a multiple of `align`. */
+typedef struct { size_t parts; uint32_t whole, first, between, align; } shape;
+
+/* Frames with LEN, or datagrams: in each, packets until none fits, the last one cut to fit. */
+static int make_many(transport by, shape p, uint32_t least, uint32_t most)
 {
-    it.flexray = s;
-    it.n = it.count = it.bytes = 0;
     uint32_t ctr = 0;
-    for (it.parts = 0; it.parts < FRAMES; it.parts++) {
-        uint32_t at = size, count = 0, bytes = 0;
-        while (at < FRAME) {
-            uint32_t n = random_from(least, most);
-            if (at + n > FRAME)
-                n = FRAME - at;
+    it.n = it.count = it.bytes = it.parts = 0;
+    while (it.parts < p.parts) {
+        size_t count = 0;
+        for (uint32_t n, at = p.first; at < p.whole; at = (at + n + p.between) & ~(p.align - 1)) {
+            n = random_from(least, most);
+            if (at + n > p.whole)
+                n = p.whole - at;
             lengths[it.count + count++] = n;
-            bytes += n;
-            at = (at + n + s.align) & ~(s.align - 1);
         }
-        xcp_written w = xcp_flexray_write(s, packets + it.bytes, bytes, lengths + it.count, count, ctr, FILL, transfer + it.n,
-                                          FRAME);
-        if (w.number != 0)
+        if (!append_part(by, count, &ctr))
             return 0;
-        it.in[it.parts] = count;
-        it.bytes_of[it.parts] = bytes;
-        it.length_of[it.parts] = w.value;
-        it.count += count;
-        it.bytes += bytes;
-        it.n += w.value;
-        ctr = w.counter;
     }
     return 1;
 }
@@ -328,22 +369,14 @@ static int make_flexray(xcp_flexray_setting s, uint32_t size, uint32_t least, ui
 /* The same packets as so many transfers, each with as many packets. */
 static int make_parts(xcp_usb_setting s, uint32_t least, uint32_t most, size_t count, size_t parts)
 {
+    uint32_t ctr = 0;
     it.usb = s;
-    it.n = it.count = it.bytes = 0;
-    for (it.parts = 0; it.parts < parts; it.parts++) {
-        uint32_t bytes = 0, in = (uint32_t)(count / parts);
-        for (uint32_t i = 0; i < in; i++)
-            bytes += lengths[it.count + i] = random_from(least, most);
-        xcp_written w = xcp_usb_write(s, packets + it.bytes, bytes, lengths + it.count, in, 0, FILL, 0, transfer + it.n,
-                                      TRANSFER - it.n);
-        if (w.number != 0)
+    it.n = it.count = it.bytes = it.parts = 0;
+    while (it.parts < parts) {
+        for (size_t i = 0; i < count / parts; i++)
+            lengths[it.count + i] = random_from(least, most);
+        if (!append_part(USB, count / parts, &ctr))
             return 0;
-        it.in[it.parts] = in;
-        it.bytes_of[it.parts] = bytes;
-        it.length_of[it.parts] = w.value;
-        it.count += in;
-        it.bytes += bytes;
-        it.n += w.value;
     }
     return 1;
 }
@@ -354,18 +387,15 @@ typedef struct { uint32_t from, to, length, behind; } move;
 static move moves[ROWS];
 
 /* The moves of what was made, from the rows of a reader. */
-static void make_moves(int flexray)
+static void make_moves(transport by)
 {
     size_t from = 0, start = 0;
     move *m = moves;
     for (size_t i = 0; i < it.parts; i++) {
         uint32_t n = it.length_of[i], *row = tables[0];
         xcp_counter fresh = {0, 0};
-        if (flexray)
-            idiomatic_flexray_read(it.flexray, transfer + start, n, fresh, row, 5 * ROWS);
-        else
-            idiomatic_usb_read(it.usb, transfer + start, n, fresh, row, 5 * ROWS);
-        uint32_t header = flexray ? 1 : row[0];
+        read_by(&ways[IDIOMATIC], by, transfer + start, n, fresh, row, 5 * ROWS);
+        uint32_t header = by == FLEXRAY ? 1 : row[0];
         for (uint32_t k = it.in[i]; k != 0; k--, row += 5, m++) {
             uint32_t end = row[0] + row[1], next = k > 1 ? row[5] - header : n;
             *m = (move){(uint32_t)from, (uint32_t)start + row[0], row[1], next - end};
@@ -377,16 +407,16 @@ static void make_moves(int flexray)
 
 /* One run of each job in one of the ways. The sum of what they answer is kept, so that no call is left out. */
 
-typedef enum { USB_READ, USB_WRITE, FLEXRAY_READ, FLEXRAY_WRITE, USB_SETTINGS } job;
+typedef enum { USB_READ, USB_WRITE, FLEXRAY_READ, FLEXRAY_WRITE, UDP_READ, UDP_WRITE, USB_SETTINGS } job;
 
 static int is_read(job j)
 {
-    return j == USB_READ || j == FLEXRAY_READ;
+    return j == USB_READ || j == FLEXRAY_READ || j == UDP_READ;
 }
 
-static int is_flexray(job j)
+static transport transport_of(job j)
 {
-    return j == FLEXRAY_READ || j == FLEXRAY_WRITE;
+    return j == FLEXRAY_READ || j == FLEXRAY_WRITE ? FLEXRAY : j == UDP_READ || j == UDP_WRITE ? UDP : USB;
 }
 
 static volatile uint32_t kept;
@@ -419,33 +449,20 @@ static void run_least(void)
 
 static void run_calls(job j, const implementation *f)
 {
+    const transport by = transport_of(j);
+    const int reads = is_read(j);
     const uint8_t *t = transfer, *p = packets;
     const uint32_t *l = lengths;
     uint8_t *out = outs[0];
-    uint32_t first = 0;
     xcp_read r = {0, 0, {0, 0}};
-    xcp_written x;
+    xcp_written x = {0, 0, 0};
     for (size_t i = 0; i < it.parts; i++) {
-        switch (j) {
-        case USB_READ:
-            r = f->usb_read(it.usb, t, it.length_of[i], r.counter, tables[0], 5 * ROWS);
+        if (reads) {
+            r = read_by(f, by, t, it.length_of[i], r.counter, tables[0], 5 * ROWS);
             kept += r.value;
-            break;
-        case FLEXRAY_READ:
-            r = f->flexray_read(it.flexray, t, it.length_of[i], r.counter, tables[0], 5 * FRAME);
-            kept += r.value;
-            break;
-        case USB_WRITE:
-            x = f->usb_write(it.usb, p, it.bytes_of[i], l, it.in[i], 0, FILL, 0, out, it.length_of[i]);
+        } else {
+            x = write_by(f, by, p, it.bytes_of[i], l, it.in[i], x.counter, 0, out, it.length_of[i]);
             kept += x.value;
-            break;
-        case FLEXRAY_WRITE:
-            x = f->flexray_write(it.flexray, p, it.bytes_of[i], l, it.in[i], first, FILL, out, it.length_of[i]);
-            first = x.counter;
-            kept += x.value;
-            break;
-        case USB_SETTINGS:
-            break;
         }
         t += it.length_of[i];
         out += it.length_of[i];
@@ -469,21 +486,21 @@ static void run(job j, int w)
 /* Whether the three agree on all of it, and give back what was put in: reading the rows, writing the bytes. */
 static int agree(job j)
 {
-    int flexray = is_flexray(j), reads = is_read(j);
+    const transport by = transport_of(j);
+    const int reads = is_read(j);
     size_t from = 0, at = 0, to = 0;
     xcp_read r = {0, 0, {0, 0}};
-    xcp_written w;
+    xcp_written w = {0, 0, 0};
     for (size_t i = 0; i < it.parts; i++) {
         size_t n = it.length_of[i], table = 5 * (it.in[i] + 8u);
         if (reads) {
-            if (!agree_read(flexray, transfer + to, n, r.counter, table, table, &r) || r.number != 0 || r.value != it.in[i])
+            if (!agree_read(by, transfer + to, n, r.counter, table, table, &r) || r.number != 0 || r.value != it.in[i])
                 return 0;
             for (size_t k = 0; k < it.in[i]; k++)
                 if (tables[0][5 * k + 1] != lengths[at + k])
                     return 0;
         } else {
-            uint32_t first = flexray ? (uint32_t)i & 0xFF : 0;
-            if (!agree_write(flexray, packets + from, it.bytes_of[i], lengths + at, it.in[i], first, 0, n, n, &w) || w.number != 0
+            if (!agree_write(by, packets + from, it.bytes_of[i], lengths + at, it.in[i], w.counter, 0, n, n, &w) || w.number != 0
                 || w.value != n || memcmp(outs[0], transfer + to, n) != 0)
                 return 0;
         }
@@ -570,14 +587,14 @@ static measured measure(job j, int set, double budget)
     return m;
 }
 
-/* The instructions for a message: of all that a run takes, the caller included, with the first messages or frames of what is
-   measured. `moves` tells where they end. */
+/* The instructions for a message: of all that a run takes, the caller included, with the first messages, frames or datagrams of what
+   is measured. `moves` tells where the messages end. */
 static double instructions(job j, int w)
 {
     size_t parts = it.parts, count = 0;
     uint32_t in = it.in[0], length = it.length_of[0], bytes = it.bytes_of[0];
-    if (is_flexray(j)) {
-        for (it.parts = 0; it.parts < COUNTED_FRAMES; it.parts++)
+    if (transport_of(j) != USB) {
+        for (it.parts = 0; it.parts < COUNTED_PARTS; it.parts++)
             count += it.in[it.parts];
     } else {
         while (count < it.count && count < COUNTED && moves[count].from < COUNTED_BYTES)
@@ -623,7 +640,7 @@ static void row(job j, const char *name, uint32_t header, const char *packing, u
         differ = 1;
         return;
     }
-    make_moves(is_flexray(j));
+    make_moves(transport_of(j));
     line *l = &lines[line_count++];
     l->name = name;
     l->setting = packing;
@@ -664,9 +681,13 @@ static double resolution(void)
 static void print_line(line *l, double most)
 {
     double messages = (double)l->count, idiomatic = median(l->idiomatic, PASSES), tuned = median(l->tuned, PASSES);
-    printf("| %s | %u%s%s | %u | %s | %lu | %lu | %.2f | %.2f%s | %.2f%s | %.2f | ", l->name, l->header, *l->setting ? " " : "",
-           l->setting, l->align, l->sizes, (unsigned long)l->n, (unsigned long)l->count, median(l->ns[OURS], PASSES) / messages,
-           idiomatic, idiomatic > 0.8 * most ? " *" : "", tuned, tuned > most ? " *" : "", median(l->copy, PASSES));
+    if (transport_of(l->j) == UDP)
+        printf("| %s | | | ", l->name); /* one header, no alignment */
+    else
+        printf("| %s | %u%s%s | %u | ", l->name, l->header, *l->setting ? " " : "", l->setting, l->align);
+    printf("%s | %lu | %lu | %.2f | %.2f%s | %.2f%s | %.2f | ", l->sizes, (unsigned long)l->n, (unsigned long)l->count,
+           median(l->ns[OURS], PASSES) / messages, idiomatic, idiomatic > 0.8 * most ? " *" : "", tuned, tuned > most ? " *" : "",
+           median(l->copy, PASSES));
     if (counts)
         printf("%.1f | %.1f | ", l->ours_counted, l->tuned_counted);
     printf("%.2f | ", median(l->ns[MEMCPY], PASSES) / messages);
@@ -715,8 +736,8 @@ static void print_lines(void)
     printf("Over 1.0 of tuned: %d; beyond the resolution, over %.3f: %d.\n", over[2], most, over[3]);
     printf("A star marks what is beyond the resolution.\n");
     if (counts)
-        printf("Instructions: all of a call, with its caller and the C library, for up to %d messages or %d frames; for one message.\n",
-               COUNTED, COUNTED_FRAMES);
+        printf("Instructions: all of a call, with its caller and the C library, for up to %d messages or for %d frames or datagrams; "
+               "for one message.\n", COUNTED, COUNTED_PARTS);
     else
         printf("Instructions could not be counted here.\n");
 }
@@ -755,22 +776,39 @@ static void usb_rows(job j, const char *name, double budget)
                 usb_row(j, name, pairs[pair][0], pairs[pair][1], packing, size, budget);
 }
 
+/* The packet lengths of a row. */
+typedef struct { const char *sizes; uint32_t least, most; } range;
+
+/* Rows of frames or datagrams, by the setting of `it`. */
+static void part_rows(job j, const char *name, shape p, uint32_t header, const range sizes[3], double budget)
+{
+    for (uint32_t size = 0; size < 3; size++) {
+        seed = 362436069u + size;
+        if (!make_many(transport_of(j), p, sizes[size].least, sizes[size].most)) {
+            printf("%s, %s: nothing was made\n", name, sizes[size].sizes);
+            differ = 1;
+            continue;
+        }
+        row(j, name, header, "", p.align, sizes[size].sizes, budget);
+    }
+}
+
 static void flexray_rows(job j, const char *name, double budget)
 {
-    static const char *const sizes[3] = {"1-8", "1-64", "200-251"};
-    static const uint32_t from[3] = {1, 1, 200}, to[3] = {8, 64, 251};
-    static const uint32_t shapes[2][3] = {{7, 1, 3}, {8, 4, 4}}; /* header, alignment, bytes of the header */
-    for (int shape = 0; shape < 2; shape++)
-        for (int size = 0; size < 3; size++) {
-            xcp_flexray_setting s = {7, 0, FRAME, shapes[shape][0], shapes[shape][1]};
-            seed = 362436069u + (uint32_t)size;
-            if (!make_flexray(s, shapes[shape][2], from[size], to[size])) {
-                printf("FlexRay: no frame was made\n");
-                differ = 1;
-                continue;
-            }
-            row(j, name, s.header, "", s.align, sizes[size], budget);
-        }
+    static const range sizes[3] = {{"1-8", 1, 8}, {"1-64", 1, 64}, {"200-251", 200, 251}};
+    static const uint32_t headers[2][3] = {{7, 1, 3}, {8, 4, 4}}; /* header, alignment, bytes of the header */
+    for (int k = 0; k < 2; k++) {
+        const uint32_t header = headers[k][0], align = headers[k][1];
+        it.flexray = (xcp_flexray_setting){7, 0, FRAME, header, align};
+        part_rows(j, name, (shape){FRAMES, FRAME, headers[k][2], align, align}, header, sizes, budget);
+    }
+}
+
+static void udp_rows(job j, const char *name, double budget)
+{
+    static const range sizes[3] = {{"1-8", 1, 8}, {"1-64", 1, 64}, {"200-1468", 200, 1468}};
+    it.udp = (xcp_udp_setting){1468, 0};
+    part_rows(j, name, (shape){DATAGRAMS, DATAGRAM, 4, 4, 1}, 0, sizes, budget);
 }
 
 /* The same packets as 16 transfers, 8, and so on to one, by turns: the time for one message should not grow with the transfer. */
@@ -872,6 +910,8 @@ int main(int argc, char **argv)
         usb_rows(USB_WRITE, "USB write", budget);
         flexray_rows(FLEXRAY_READ, "FlexRay read", budget);
         flexray_rows(FLEXRAY_WRITE, "FlexRay write", budget);
+        udp_rows(UDP_READ, "UDP read", budget);
+        udp_rows(UDP_WRITE, "UDP write", budget);
         place_arrays(0);
         text_rows(budget);
     }

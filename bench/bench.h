@@ -13,7 +13,11 @@
     xcp_read name##_flexray_read(xcp_flexray_setting s, const uint8_t *frame, size_t n, xcp_counter c, \
                                  uint32_t *rows, size_t numbers); \
     xcp_written name##_flexray_write(xcp_flexray_setting s, const uint8_t *packets, size_t n, const uint32_t *lengths, \
-                                     size_t count, uint32_t first, uint8_t fill, uint8_t *out, size_t room);
+                                     size_t count, uint32_t first, uint8_t fill, uint8_t *out, size_t room); \
+    xcp_read name##_udp_read(xcp_udp_setting s, const uint8_t *datagram, size_t n, xcp_counter c, \
+                             uint32_t *rows, size_t numbers); \
+    xcp_written name##_udp_write(xcp_udp_setting s, const uint8_t *packets, size_t n, const uint32_t *lengths, size_t count, \
+                                 uint32_t first, uint8_t *out, size_t room);
 
 IMPLEMENTATION(idiomatic)
 IMPLEMENTATION(tuned)

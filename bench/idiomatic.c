@@ -5,7 +5,8 @@
 #include "bench.h"
 
 enum { SINGLE, MULTIPLE, STREAMING };
-enum { LONGEST_TRANSFER = 262144, MOST_LENGTHS = 4096 };
+enum { LONGEST_TRANSFER = 262144, LONGEST_DATAGRAM = 1472, MOST_LENGTHS = 4096 };
+enum { UDP_HEADER = 4 }; /* LEN and CTR words */
 
 typedef struct { uint32_t size, len_width, ctr_at, ctr_width; } usb_header;
 
@@ -346,5 +347,81 @@ xcp_written idiomatic_flexray_write(xcp_flexray_setting s, const uint8_t *packet
     if (h->has_len && at - 1 < total)
         out[at - 1] = 0;
     xcp_written r = {0, (uint32_t)total, h->has_ctr ? (first + 1) & 0xFF : first};
+    return r;
+}
+
+static int udp_sound(const xcp_udp_setting *s)
+{
+    return s->longest >= 8 && s->longest <= LONGEST_DATAGRAM - UDP_HEADER && s->direction <= 1;
+}
+
+/* What stands at q: 0 and the length of a packet, or the number of a refusal. */
+static uint32_t udp_see(const xcp_udp_setting *s, const uint8_t *d, size_t n, size_t q, uint32_t *length)
+{
+    if (n - q < UDP_HEADER)
+        return 5;
+    *length = get(d + q, 2);
+    if (*length == 0)
+        return 6;
+    if (*length > s->longest)
+        return 3;
+    return *length > n - q - UDP_HEADER ? 5 : 0;
+}
+
+xcp_read idiomatic_udp_read(xcp_udp_setting s, const uint8_t *d, size_t n, xcp_counter c, uint32_t *rows, size_t numbers)
+{
+    uint32_t mask = counter_mask(2), length;
+    if (!udp_sound(&s) || (c.known && c.expected > mask))
+        return not_read(1, 0, c);
+    if (n > LONGEST_DATAGRAM)
+        return not_read(2, 0, c);
+
+    size_t count = 0;
+    for (size_t q = 0; q < n; q += UDP_HEADER + length) {
+        uint32_t number = udp_see(&s, d, n, q, &length);
+        if (number != 0)
+            return not_read(number, q, c);
+        count++;
+    }
+    if (numbers / 5 < count)
+        return not_read(4, 0, c);
+
+    size_t at = UDP_HEADER;
+    for (size_t i = 0; i < count; i++) {
+        const uint8_t *header = d + at - UDP_HEADER;
+        uint32_t ctr = get(header + 2, 2), gap = advance(&c, ctr, mask);
+        length = get(header, 2);
+        put_row(rows + 5 * i, at, length, ctr, gap, kind(s.direction, d[at]));
+        at += length + UDP_HEADER;
+    }
+    xcp_read r = {0, (uint32_t)count, c};
+    return r;
+}
+
+xcp_written idiomatic_udp_write(xcp_udp_setting s, const uint8_t *packets, size_t n, const uint32_t *lengths, size_t count,
+                                uint32_t first, uint8_t *out, size_t room)
+{
+    uint32_t mask = counter_mask(2);
+    if (!udp_sound(&s) || first > mask)
+        return not_written(1, 0, first);
+    if (count > MOST_LENGTHS || !sum_is(lengths, count, n))
+        return not_written(2, 0, first);
+    for (size_t i = 0; i < count; i++)
+        if (lengths[i] == 0 || lengths[i] > s.longest)
+            return not_written(3, i, first);
+    size_t total = n + UDP_HEADER * count;
+    if (total > room || total > LONGEST_DATAGRAM)
+        return not_written(4, 0, first);
+
+    uint32_t ctr = first;
+    for (size_t i = 0; i < count; i++) {
+        put(out, 2, lengths[i]);
+        put(out + 2, 2, ctr);
+        memcpy(out + UDP_HEADER, packets, lengths[i]);
+        ctr = (ctr + 1) & mask;
+        packets += lengths[i];
+        out += UDP_HEADER + lengths[i];
+    }
+    xcp_written r = {0, (uint32_t)total, ctr};
     return r;
 }

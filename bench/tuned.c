@@ -19,7 +19,7 @@
 #define HIDE(x) __asm__("" : "+r"(x))
 
 enum { SINGLE, MULTIPLE, STREAMING };
-enum { LONGEST_TRANSFER = 262144, MOST_LENGTHS = 4096, LONGEST_FRAME = 254 };
+enum { LONGEST_TRANSFER = 262144, MOST_LENGTHS = 4096, LONGEST_FRAME = 254, LONGEST_DATAGRAM = 1472 };
 enum { SMALL = 16, BLOCK = 64, AHEAD = 512 }; /* bytes of two blocks, and how far ahead lines are fetched */
 
 typedef unsigned long long word;
@@ -869,4 +869,147 @@ xcp_written tuned_flexray_write(xcp_flexray_setting s, const uint8_t *packets, s
 #undef CASE
     default: return not_written(1, 0, first);
     }
+}
+
+/* UDP. A message is that of USB header 4 with alignment 1, and there are no data packets. */
+
+enum { WORDS = 4, UDP_SIZE = 4 }; /* its header's number on USB, and its bytes */
+
+INLINE int udp_sound(const xcp_udp_setting *s)
+{
+    return (s->longest - 8 <= LONGEST_DATAGRAM - UDP_SIZE - 8) & (s->direction < 2);
+}
+
+/* Why no message stands at q, before the datagram's end. */
+static __attribute__((noinline, cold)) judged no_message(const uint8_t *d, size_t n, size_t q, size_t longest)
+{
+    size_t len = n - q < UDP_SIZE ? 1 : len_at(d + q, WORDS);
+    return judged_as(len == 0 ? 6 : len > longest ? 3 : 5, q);
+}
+
+/* The messages of a datagram, judged, and their rows unless `row` is NULL. Where fewer bytes are left than a message has, a message must
+   have ended with the datagram: so in a turn one comparison of its end is enough. */
+INLINE judged judge_datagram(const uint8_t *d, size_t n, size_t longest, uint32_t *row, uint32_t expected, uint32_t direction)
+{
+    size_t q = 0, next = 0, count = 0;
+    if (n > UDP_SIZE)
+        for (const size_t last = n - UDP_SIZE - 1;; q = next) {
+            size_t len = len_at(d + q, WORDS);
+            next = behind(q, len, WORDS, 1);
+            if (UNLIKELY(len - 1 >= longest))
+                return no_message(d, n, q, longest);
+            if (row) {
+                expected = put_row(row, d, q, len, expected, direction, WORDS);
+                row += 5;
+            }
+            count++;
+            if (next > last)
+                break;
+        }
+    if (UNLIKELY(next != n))
+        return no_message(d, n, next > n ? q : next, longest);
+    return judged_as(0, count);
+}
+
+INLINE void fill_datagram(uint32_t *row, size_t count, const uint8_t *d, uint32_t expected, uint32_t direction)
+{
+    for (size_t q = 0;; row += 5) {
+        size_t len = len_at(d + q, WORDS);
+        expected = put_row(row, d, q, len, expected, direction, WORDS);
+        if (--count == 0)
+            return;
+        q = behind(q, len, WORDS, 1);
+    }
+}
+
+/* Judges and gives rows, as of a frame: twice over a datagram that starts with a long packet, else by rows made aside. */
+INLINE judged read_messages(const uint8_t *d, size_t n, size_t longest, uint32_t *rows, size_t numbers, uint32_t expected,
+                            uint32_t direction)
+{
+    if (n > UDP_SIZE && word_at(d) >= BLOCK) {
+        judged j = judge_datagram(d, n, longest, NULL, expected, direction);
+        if (UNLIKELY(j.number != 0))
+            return j;
+        if (numbers < 5 * j.value)
+            return judged_as(4, 0);
+        fill_datagram(rows, j.value, d, expected, direction);
+        return j;
+    }
+    uint32_t aside[LONGEST_DATAGRAM]; /* a row has five numbers, a message at least five bytes */
+    judged j = judge_datagram(d, n, longest, aside, expected, direction);
+    if (UNLIKELY(j.number != 0))
+        return j;
+    if (numbers < 5 * j.value)
+        return judged_as(4, 0);
+    memcpy(rows, aside, 5 * j.value * sizeof *rows);
+    return j;
+}
+
+xcp_read tuned_udp_read(xcp_udp_setting s, const uint8_t *d, size_t n, xcp_counter c, uint32_t *rows, size_t numbers)
+{
+    if (!udp_sound(&s) || (c.known && c.expected > 0xFFFF))
+        return not_read(1, 0, c);
+    if (n > LONGEST_DATAGRAM)
+        return not_read(2, 0, c);
+    uint32_t expected = c.known ? c.expected : n < UDP_SIZE ? 0 : ctr_at(d, WORDS);
+    judged j = s.direction ? read_messages(d, n, s.longest, rows, numbers, expected, 1)
+                           : read_messages(d, n, s.longest, rows, numbers, expected, 0);
+    if (UNLIKELY(j.number != 0))
+        return not_read(j.number, j.value, c);
+    if (j.value != 0) {
+        c.known = 1;
+        c.expected = (rows[5 * j.value - 3] + 1) & 0xFFFF;
+    }
+    return not_read(0, j.value, c);
+}
+
+/* Both words by one store: the processor has the low byte first too. */
+INLINE void put_words(uint8_t *to, size_t len, uint32_t ctr)
+{
+    uint32_t words = (uint32_t)len | ctr << 16;
+    memcpy(to, &words, UDP_SIZE);
+}
+
+/* As many bytes as are left of the packets, and more, are left of the datagram. So a block from there stays inside both. */
+INLINE uint32_t put_datagram(const uint8_t *packets, size_t left, const uint32_t *lengths, size_t count, uint32_t ctr, uint8_t *out)
+{
+    size_t i = 0;
+    for (; left >= SMALL; i++, ctr++) {
+        size_t len = lengths[i];
+        if (len <= SMALL)
+            copy_block(out + UDP_SIZE, packets, SMALL);
+        else if (len <= BLOCK && left >= BLOCK)
+            copy_block(out + UDP_SIZE, packets, BLOCK);
+        else
+            copy(out + UDP_SIZE, packets, len);
+        put_words(out, len, ctr);
+        packets += len;
+        left -= len;
+        out += UDP_SIZE + len;
+    }
+    for (; i < count; i++, ctr++) {
+        size_t len = lengths[i];
+        copy(out + UDP_SIZE, packets, len);
+        put_words(out, len, ctr);
+        packets += len;
+        out += UDP_SIZE + len;
+    }
+    return ctr;
+}
+
+xcp_written tuned_udp_write(xcp_udp_setting s, const uint8_t *packets, size_t n, const uint32_t *lengths, size_t count,
+                            uint32_t first, uint8_t *out, size_t room)
+{
+    if (!udp_sound(&s) || first > 0xFFFF)
+        return not_written(1, 0, first);
+    if (count > MOST_LENGTHS)
+        return not_written(2, 0, first);
+    sized z = size_apart(lengths, count, 0, s.longest, WORDS, STREAMING, 1);
+    if (UNLIKELY(z.sum != n))
+        return not_written(2, 0, first);
+    if (UNLIKELY(z.misfit < count))
+        return not_written(3, z.misfit, first);
+    if (z.total > room || z.total > LONGEST_DATAGRAM)
+        return not_written(4, 0, first);
+    return not_written(0, z.total, put_datagram(packets, n, lengths, count, first, out) & 0xFFFF);
 }

@@ -1,5 +1,5 @@
 /*
- * Plumagemud: lists of XCP packets in USB transfers and FlexRay frames, and USB settings from a description file.
+ * Plumagemud: lists of XCP packets in USB transfers, FlexRay frames and UDP datagrams, and USB settings from a description file.
  *
  * Every function answers every call; nothing has to be checked before. A refusal is a number from 1 to 9 with a place, and
  * changes nothing. The functions keep no data of their own, so threads may call them at the same time. All but xcp_usb_settings bring
@@ -53,9 +53,16 @@ typedef struct { uint32_t header, packing, align, data_packet, longest, directio
 typedef struct { uint32_t node, direction, ceiling, header, align; } xcp_flexray_setting;
 
 /*
+ * A UDP port. A message is a header, LEN and CTR words, and a packet; a word is low byte first. No byte is free.
+ *   longest    bytes of the longest packet: 8 to 1468.
+ *   direction  0 or 1.
+ */
+typedef struct { uint32_t longest, direction; } xcp_udp_setting;
+
+/*
  * The state of the counter (CTR), from one read to the next. {0, 0} is a fresh state.
  *   known     0: fresh, no counter was read yet, and expected is not used. Any other number: known.
- *   expected  the counter that the next message should carry: 0 to 255, and 0 to 65535 for USB header 4.
+ *   expected  the counter that the next message should carry: 0 to 255, and 0 to 65535 for USB header 4 and for UDP.
  * Where the header has no counter the state is neither used nor altered.
  */
 typedef struct { uint32_t known, expected; } xcp_counter;                  /* known 0: fresh; any other: known */
@@ -166,6 +173,38 @@ xcp_read    xcp_flexray_read(xcp_flexray_setting s, const uint8_t *frame, size_t
  */
 xcp_written xcp_flexray_write(xcp_flexray_setting s, const uint8_t *packets, size_t n, const uint32_t *lengths, size_t count,
                           uint32_t first, uint8_t fill, uint8_t *out, size_t room);
+
+/*
+ * Reads a UDP datagram: messages one behind another, which end with the datagram.
+ *   datagram, n    the datagram and its length in bytes, at most 1472.
+ *   c              the state of the counter; {0, 0} for the first datagram, then the counter that the last read returned.
+ *   rows, numbers  the table to be filled and its length in numbers: five for each row.
+ * Rows are those of xcp_usb_read with header 4: each carries a counter. An empty datagram has no rows, and leaves the state.
+ * Refusals, in the order in which they are found; of 6, 3 and 5 the leftmost, in this order at one header; 4 comes last:
+ *   1 at 0         a field of s is out of its range; or the state is known, and expected is greater than 65535
+ *   2 at 0         the datagram is longer than 1472 bytes
+ *   6 at a header  LEN is 0
+ *   3 at a header  LEN is greater than s.longest
+ *   5 at a header  the packet runs past the datagram; or at the first of one to three bytes that are left over
+ *   4 at 0         the table has fewer than five numbers for each row
+ */
+xcp_read    xcp_udp_read(xcp_udp_setting s, const uint8_t *datagram, size_t n, xcp_counter c, uint32_t *rows, size_t numbers);
+
+/*
+ * Writes packets as one UDP datagram.
+ *   packets, n      the bytes of all packets, one behind another, and their number.
+ *   lengths, count  the length of each packet in bytes, and the number of packets, at most 4096.
+ *   first           the counter of the first packet, 0 to 65535. The next is one more for each packet, modulo 65536.
+ *   out, room       where the datagram is written, and the number of bytes there.
+ * There is no fill byte, since no byte is free. No packet gives no bytes, and `first` as the next counter.
+ * Refusals, in the order in which they are found:
+ *   1 at 0  a field of s is out of its range; or first is greater than 65535
+ *   2 at 0  there are more than 4096 lengths, or their sum is not n
+ *   3 at i  lengths[i] is 0, or is greater than s.longest; the least such i
+ *   4 at 0  the datagram needs more than room, or more than 1472 bytes
+ */
+xcp_written xcp_udp_write(xcp_udp_setting s, const uint8_t *packets, size_t n, const uint32_t *lengths, size_t count,
+                          uint32_t first, uint8_t *out, size_t room);
 
 /*
  * Reads the settings of the two USB endpoints from the XCP_ON_USB block of a slave's description file (A2L).

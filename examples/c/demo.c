@@ -1,6 +1,6 @@
 /*
- * Writes packets as a USB transfer and as a FlexRay frame, reads both back, and reads a transfer that was cut; and takes the setting
- * for a transfer from a description file's block.
+ * Writes packets as a USB transfer, as a FlexRay frame and as a UDP datagram, reads them back, and reads a transfer that was cut; and
+ * takes the setting for a transfer from a description file's block.
  */
 #include <stdio.h>
 
@@ -144,10 +144,34 @@ static void flexray(void)
     show_read("flexray read, damaged", r, out, rows);
 }
 
+static void udp(void)
+{
+    /* packets of up to 64 bytes, from the slave */
+    const xcp_udp_setting s = {64, 0};
+    const uint8_t packets[] = {0xFF, 0x01, 0x02, 0x03};
+    const uint32_t lengths[] = {1, 3};
+    const xcp_counter fresh = {0, 0};
+    uint8_t out[64];
+    uint32_t rows[5 * 8];
+
+    const xcp_written w = xcp_udp_write(s, packets, COUNT(packets), lengths, COUNT(lengths), 65535, out, COUNT(out));
+    show_written("udp write", w, out);
+    if (w.number != 0)
+        return;
+
+    xcp_read r = xcp_udp_read(s, out, w.value, fresh, rows, COUNT(rows));
+    show_read("udp read", r, out, rows);
+
+    /* three bytes are left over behind the first message, at 5: no header */
+    r = xcp_udp_read(s, out, 8, fresh, rows, COUNT(rows));
+    show_read("udp read, cut", r, out, rows);
+}
+
 int main(void)
 {
     usb();
     flexray();
+    udp();
     settings();
     return 0;
 }

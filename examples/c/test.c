@@ -8,6 +8,7 @@
 
 _Static_assert(sizeof(xcp_usb_setting) == 24, "six numbers");
 _Static_assert(sizeof(xcp_flexray_setting) == 20, "five numbers");
+_Static_assert(sizeof(xcp_udp_setting) == 8, "two numbers");
 _Static_assert(sizeof(xcp_counter) == 8, "two numbers");
 _Static_assert(sizeof(xcp_read) == 16, "four numbers");
 _Static_assert(sizeof(xcp_written) == 12, "three numbers");
@@ -94,7 +95,7 @@ static int settings_refused(xcp_settings a, uint32_t number, uint32_t place)
 enum { OLD = 0xA5 };
 
 static uint32_t rows[20];
-static uint8_t out[40];
+static uint8_t out[1480];
 
 static void renew(void)
 {
@@ -248,6 +249,118 @@ static void test_flexray(void)
     CHECK(all_numbers(rows, 20, OLD));
 }
 
+/* two messages, whose counters go over the wrap */
+static const uint8_t datagram[] = {0x01, 0x00, 0xFF, 0xFF, 0xFF, 0x03, 0x00, 0x00, 0x00, 0x01, 0x02, 0x03};
+static const xcp_udp_setting u64 = {64, 0}, u1468 = {1468, 0};
+
+static xcp_read udp_read(xcp_udp_setting s, const uint8_t *d, size_t n, xcp_counter c, size_t numbers)
+{
+    renew();
+    return xcp_udp_read(s, d, n, c, rows, numbers);
+}
+
+static void test_udp_read(void)
+{
+    static const uint32_t first[] = {4, 1, 65535, 0, 1, 9, 3, 0, 0, 5};
+    static const uint32_t gaps[] = {4, 1, 65535, 65285, 1, 9, 3, 0, 0, 5};
+    static const uint32_t master[] = {4, 1, 65535, 65535, 6, 9, 3, 0, 0, 7};
+    static const uint32_t whole[] = {4, 1468, 258, 0, 5};
+    static const uint8_t over[] = {0x41, 0x00, 0x00, 0x00}, far_over[] = {0x01, 0x01, 0x00, 0x00}, fits[] = {0x40, 0x00, 0x00, 0x00};
+    static const uint8_t zero[] = {0x01, 0x00, 0x00, 0x00, 0xFF, 0x00, 0x00, 0x01, 0x00, 0xFF};
+    static const uint8_t many[1473] = {0xBC, 0x05, 0x02, 0x01};
+
+    CHECK(read_is(udp_read(u64, datagram, 12, fresh, 20), 0, 2, 1, 1));
+    CHECK(same_numbers(rows, first, 10) && all_numbers(rows + 10, 10, OLD));
+    CHECK(read_is(udp_read(u64, datagram, 12, known, 10), 0, 2, 1, 1));
+    CHECK(same_numbers(rows, gaps, 10) && all_numbers(rows + 10, 10, OLD));
+    CHECK(read_is(udp_read(u64, datagram, 5, (xcp_counter){1, 65535}, 5), 0, 1, 1, 0));
+    CHECK(same_numbers(rows, first, 5) && all_numbers(rows + 5, 15, OLD));
+    CHECK(read_is(udp_read((xcp_udp_setting){8, 1}, datagram, 12, (xcp_counter){1, 0}, 20), 0, 2, 1, 1));
+    CHECK(same_numbers(rows, master, 10) && all_numbers(rows + 10, 10, OLD));
+
+    CHECK(read_is(udp_read(u64, datagram, 12, known, 9), 4, 0, 7, 250));
+    CHECK(all_numbers(rows, 20, OLD));
+
+    /* a packet that is cut; three, two and one bytes left over */
+    CHECK(read_is(udp_read(u64, datagram, 11, known, 20), 5, 5, 7, 250));
+    CHECK(read_is(udp_read(u64, datagram, 9, known, 20), 5, 5, 7, 250));
+    CHECK(read_is(udp_read(u64, datagram, 8, known, 20), 5, 5, 7, 250));
+    CHECK(read_is(udp_read(u64, datagram, 7, known, 20), 5, 5, 7, 250));
+    CHECK(read_is(udp_read(u64, datagram, 6, known, 0), 5, 5, 7, 250));
+    CHECK(read_is(udp_read(u64, datagram, 4, fresh, 20), 5, 0, 0, 0));
+    CHECK(read_is(udp_read(u64, datagram, 3, fresh, 20), 5, 0, 0, 0));
+    CHECK(all_numbers(rows, 20, OLD));
+
+    /* LEN 0, and LEN over the longest packet, which goes before the end of the datagram */
+    CHECK(read_is(udp_read(u64, zero, 10, known, 20), 6, 5, 7, 250));
+    CHECK(read_is(udp_read(u64, zero, 9, known, 0), 6, 5, 7, 250));
+    CHECK(read_is(udp_read(u64, zero + 5, 4, fresh, 20), 6, 0, 0, 0));
+    CHECK(read_is(udp_read(u64, over, 4, fresh, 20), 3, 0, 0, 0));
+    CHECK(read_is(udp_read(u64, far_over, 4, fresh, 20), 3, 0, 0, 0));
+    CHECK(read_is(udp_read(u64, fits, 4, fresh, 20), 5, 0, 0, 0));
+    CHECK(all_numbers(rows, 20, OLD));
+
+    /* the longest datagram, and one byte more */
+    CHECK(read_is(udp_read(u1468, many, 1472, fresh, 5), 0, 1, 1, 259));
+    CHECK(same_numbers(rows, whole, 5) && all_numbers(rows + 5, 15, OLD));
+    CHECK(read_is(udp_read(u1468, many, 1471, known, 20), 5, 0, 7, 250));
+    CHECK(read_is(udp_read(u1468, many, 1473, known, 20), 2, 0, 7, 250));
+    CHECK(all_numbers(rows, 20, OLD));
+
+    /* each field of the setting by itself, and the state */
+    CHECK(read_is(udp_read((xcp_udp_setting){7, 0}, datagram, 12, known, 20), 1, 0, 7, 250));
+    CHECK(read_is(udp_read((xcp_udp_setting){1469, 0}, many, 1473, fresh, 20), 1, 0, 0, 0));
+    CHECK(read_is(udp_read((xcp_udp_setting){64, 2}, datagram, 12, fresh, 20), 1, 0, 0, 0));
+    CHECK(read_is(udp_read(u64, datagram, 12, (xcp_counter){1, 65536}, 20), 1, 0, 1, 65536));
+    CHECK(all_numbers(rows, 20, OLD));
+    CHECK(read_is(udp_read(u64, datagram, 12, (xcp_counter){0, 65536}, 20), 0, 2, 1, 1));
+
+    /* an empty datagram and an empty table */
+    CHECK(read_is(xcp_udp_read(u64, NULL, 0, known, NULL, 0), 0, 0, 7, 250));
+    CHECK(read_is(xcp_udp_read(u64, NULL, 0, (xcp_counter){1, 65536}, NULL, 0), 1, 0, 1, 65536));
+    CHECK(read_is(xcp_udp_read(u64, datagram, 12, known, NULL, 0), 4, 0, 7, 250));
+}
+
+static void test_udp_write(void)
+{
+    static const uint8_t packets[4097] = {0xFF, 0x01, 0x02, 0x03};
+    static const uint8_t counted[] = {0x01, 0x00, 0xFF, 0x00, 0xFF, 0x03, 0x00, 0x00, 0x01, 0x01, 0x02, 0x03};
+    static const uint8_t head[] = {0xBC, 0x05, 0xFF, 0xFF, 0xFF, 0x01, 0x02, 0x03};
+    static const uint32_t lengths[] = {1, 3}, short_sum[] = {1, 2}, with_none[] = {4, 0}, over[] = {64, 65, 0};
+    static const uint32_t whole[] = {1468}, too_long[] = {1464, 1};
+    static uint32_t ones[4097];
+
+    for (size_t i = 0; i < COUNT(ones); i++)
+        ones[i] = 1;
+
+    renew();
+    CHECK(written_is(xcp_udp_write(u64, packets, 4, lengths, 2, 65535, out, 40), 0, 12, 1));
+    CHECK(same_bytes(out, datagram, 12) && all_bytes(out + 12, 28, OLD));
+    renew();
+    CHECK(written_is(xcp_udp_write(u64, packets, 4, lengths, 2, 255, out, 12), 0, 12, 257));
+    CHECK(same_bytes(out, counted, 12) && all_bytes(out + 12, 28, OLD));
+    renew();
+    CHECK(written_is(xcp_udp_write(u1468, packets, 1468, whole, 1, 65535, out, COUNT(out)), 0, 1472, 0));
+    CHECK(same_bytes(out, head, 8) && all_bytes(out + 8, 1464, 0) && all_bytes(out + 1472, 8, OLD));
+
+    renew();
+    CHECK(written_is(xcp_udp_write((xcp_udp_setting){7, 0}, packets, 4, lengths, 2, 9, out, 40), 1, 0, 9));
+    CHECK(written_is(xcp_udp_write((xcp_udp_setting){1469, 0}, packets, 4, lengths, 2, 9, out, 40), 1, 0, 9));
+    CHECK(written_is(xcp_udp_write((xcp_udp_setting){64, 2}, packets, 4, lengths, 2, 9, out, 40), 1, 0, 9));
+    CHECK(written_is(xcp_udp_write(u64, packets, 4, lengths, 2, 65536, out, 40), 1, 0, 65536));
+    CHECK(written_is(xcp_udp_write(u64, packets, 4, short_sum, 2, 9, out, 40), 2, 0, 9));
+    CHECK(written_is(xcp_udp_write(u64, packets, 4097, ones, 4097, 9, out, COUNT(out)), 2, 0, 9));
+    CHECK(written_is(xcp_udp_write(u64, packets, 4, with_none, 2, 9, out, 0), 3, 1, 9));
+    CHECK(written_is(xcp_udp_write(u64, packets, 129, over, 3, 9, out, 40), 3, 1, 9));
+    CHECK(written_is(xcp_udp_write(u64, packets, 4, lengths, 2, 9, out, 11), 4, 0, 9));
+    CHECK(written_is(xcp_udp_write(u64, packets, 4096, ones, 4096, 9, out, COUNT(out)), 4, 0, 9));
+    CHECK(written_is(xcp_udp_write(u1468, packets, 1465, too_long, 2, 9, out, COUNT(out)), 4, 0, 9));
+    CHECK(all_bytes(out, COUNT(out), OLD));
+
+    CHECK(written_is(xcp_udp_write(u64, NULL, 0, NULL, 0, 65535, NULL, 0), 0, 0, 65535));
+    CHECK(written_is(xcp_udp_write(u64, NULL, 0, NULL, 0, 65536, NULL, 0), 1, 0, 65536));
+}
+
 static void test_part_check(void)
 {
     CHECK(checked_is(xcp_part_check(twelve, 12, 6, 3), 0, 0));
@@ -390,6 +503,8 @@ int main(void)
     test_usb_read();
     test_usb_write();
     test_flexray();
+    test_udp_read();
+    test_udp_write();
     test_part_check();
     test_kind();
     test_usb_settings();

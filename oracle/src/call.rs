@@ -11,6 +11,8 @@ pub enum Call {
     UsbWrite { s: Usb, packets: Vec<u8>, lengths: Vec<u32>, first: u32, fill: u8, full: bool, room: usize },
     FlexRayRead { s: FlexRay, t: Vec<u8>, c: Counter, table: usize },
     FlexRayWrite { s: FlexRay, packets: Vec<u8>, lengths: Vec<u32>, first: u32, fill: u8, room: usize },
+    UdpRead { s: Udp, t: Vec<u8>, c: Counter, table: usize },
+    UdpWrite { s: Udp, packets: Vec<u8>, lengths: Vec<u32>, first: u32, room: usize },
     Part { t: Vec<u8>, place: u32, length: u32 },
     Kind { direction: u32, packet: Vec<u8> },
     /// A reader's call with the state lent.
@@ -29,17 +31,21 @@ pub enum Answer {
     Settings(Result<[Usb; 2], (u32, u32)>),
 }
 
-pub const FUNCTIONS: usize = 9;
+pub const FUNCTIONS: usize = 12;
 
-pub const NAMES: [&str; FUNCTIONS] =
-    ["usb_read", "usb_write", "flexray_read", "flexray_write", "part", "kind", "usb_read_lent", "flexray_read_lent", "usb_settings"];
+pub const NAMES: [&str; FUNCTIONS] = [
+    "usb_read", "usb_write", "flexray_read", "flexray_write", "part", "kind", "usb_read_lent", "flexray_read_lent", "udp_read", "udp_write",
+    "udp_read_lent", "usb_settings",
+];
 
-/// The readers and writers. Those with the state lent have the readers' own reasons for refusal.
-pub const TRANSPORTS: usize = 4;
-pub const SETTINGS: usize = 8;
+/// The readers and writers of USB and FlexRay. Those with the state lent have the readers' own reasons for refusal.
+pub const TRANSPORTS: [usize; 4] = [0, 1, 2, 3];
+pub const UDP_READ: usize = 8;
+pub const UDP_WRITE: usize = 9;
+pub const SETTINGS: usize = 11;
 
 /// The functions whose reasons can meet.
-pub const PAIRED: [usize; 5] = [0, 1, 2, 3, SETTINGS];
+pub const PAIRED: [usize; 7] = [0, 1, 2, 3, UDP_READ, UDP_WRITE, SETTINGS];
 
 impl Call {
     pub fn function(&self) -> usize {
@@ -50,7 +56,13 @@ impl Call {
             Call::FlexRayWrite { .. } => 3,
             Call::Part { .. } => 4,
             Call::Kind { .. } => 5,
-            Call::Lent(call) => 6 + call.function() / 2,
+            Call::UdpRead { .. } => UDP_READ,
+            Call::UdpWrite { .. } => UDP_WRITE,
+            Call::Lent(call) => match call.function() {
+                0 => 6,
+                2 => 7,
+                _ => 10,
+            },
             Call::Settings { .. } => SETTINGS,
         }
     }
@@ -65,6 +77,8 @@ impl Call {
             Call::FlexRayWrite { s, packets, lengths, first, fill, room } => {
                 Answer::Write(flexray_write(s, packets, lengths, *first, *fill, *room))
             }
+            Call::UdpRead { s, t, c, table } => Answer::Read(udp_read(s, t, *c, *table)),
+            Call::UdpWrite { s, packets, lengths, first, room } => Answer::Write(udp_write(s, packets, lengths, *first, *room)),
             Call::Part { t, place, length } => match part(t.len(), *place as u64, *length as u64) {
                 Some(refused) => Answer::Part(Some(refused), Vec::new()),
                 None => Answer::Part(None, t[*place as usize..][..*length as usize].to_vec()),
@@ -78,7 +92,9 @@ impl Call {
     fn lent_answer(&self) -> Answer {
         match (self, self.answer()) {
             (_, Answer::Read(Read::Rows(rows, state))) => Answer::Lent(Read::Rows(rows, state), state),
-            (Call::UsbRead { c, .. } | Call::FlexRayRead { c, .. }, Answer::Read(refused)) => Answer::Lent(refused, *c),
+            (Call::UsbRead { c, .. } | Call::FlexRayRead { c, .. } | Call::UdpRead { c, .. }, Answer::Read(refused)) => {
+                Answer::Lent(refused, *c)
+            }
             _ => unreachable!("only readers have their state lent"),
         }
     }
@@ -94,6 +110,8 @@ impl Call {
             Call::FlexRayWrite { s, packets, lengths, first, room, .. } => {
                 reasons::flexray_writer(s, packets, lengths, *first, *room)
             }
+            Call::UdpRead { s, t, c, table } => reasons::udp_reader(s, t, *c, *table),
+            Call::UdpWrite { s, packets, lengths, first, room } => reasons::udp_writer(s, packets, lengths, *first, *room),
             Call::Part { t, place, length } => reasons::parts(t.len(), *place, *length),
             Call::Kind { .. } => Vec::new(),
             Call::Lent(call) => call.faults(),

@@ -1,10 +1,12 @@
 //! Cases from random numbers. Each aims at acceptance, at a reason for refusal, or at two; the rule decides what is answered.
 
-use crate::call::{Call, NAMES, TRANSPORTS};
+use crate::call::{Call, NAMES, PAIRED, TRANSPORTS, UDP_READ, UDP_WRITE};
 use crate::random::Random;
 use crate::reasons::{self, Fault, Why, REASONS};
 use crate::rule::*;
 use Why::*;
+
+mod datagrams;
 
 /// How large inputs may get: what is lent and joined packets.
 #[derive(Clone, Copy)]
@@ -18,24 +20,54 @@ pub struct Bounds {
 /// How often each pair of reasons is made on purpose.
 const TIMES: usize = 4;
 
-/// All cases: each pair of reasons on purpose, the longest output, random ones, and for both readers with the state lent each reason so
-/// many times. `take` says whether it takes a case; one that it does not take is made again.
-pub fn each(r: &mut Random, b: &Bounds, random: usize, lent: usize, take: &mut dyn FnMut(&Call) -> bool) {
-    for function in 0..TRANSPORTS {
+/// How many cases there are at random, and how many datagrams to read, to which half as many are written; and how often each reader with
+/// its state lent is accepted, and refused for each reason.
+pub struct Counts {
+    pub random: usize,
+    pub datagrams: usize,
+    pub lent: usize,
+}
+
+/// The functions of a random case of USB, FlexRay, parts and kinds, as often as they are to come.
+const OFTEN: [usize; 22] = [0, 0, 0, 0, 0, 0, 0, 1, 1, 1, 1, 1, 2, 2, 2, 2, 2, 3, 3, 3, 3, 4];
+
+/// All cases: each pair of reasons on purpose, those at the bounds, random ones, and each reader with the state lent. Datagrams come last,
+/// so that the others do not depend on them. `take` says whether it takes a case; one that it does not take is made again.
+pub fn each(r: &mut Random, b: &Bounds, n: &Counts, take: &mut dyn FnMut(&Call) -> bool) {
+    meeting(r, &TRANSPORTS, b, take);
+    longest().iter().for_each(|call| assert!(take(call)));
+    at_random(r, &OFTEN, b, n.random, take);
+    lending(r, &[0, 2], b, n.lent, take);
+    meeting(r, &[UDP_READ, UDP_WRITE], b, take);
+    datagrams::edges().iter().for_each(|call| assert!(take(call)));
+    at_random(r, &[UDP_READ], b, n.datagrams, take);
+    at_random(r, &[UDP_WRITE], b, n.datagrams / 2, take);
+    lending(r, &[UDP_READ], b, n.lent, take);
+}
+
+/// Each pair of reasons on purpose.
+fn meeting(r: &mut Random, functions: &[usize], b: &Bounds, take: &mut dyn FnMut(&Call) -> bool) {
+    for &function in functions {
         for pair in reasons::pairs(function) {
             for _ in 0..TIMES {
                 while !take(&purposely(r, function, &pair, b)) {}
             }
         }
     }
-    longest().iter().for_each(|call| assert!(take(call)));
-    for _ in 0..random {
-        while !take(&case(r, b)) {}
+}
+
+fn at_random(r: &mut Random, functions: &[usize], b: &Bounds, n: usize, take: &mut dyn FnMut(&Call) -> bool) {
+    for _ in 0..n {
+        while !take(&case(r, functions, b)) {}
     }
-    for function in [0, 2] {
+}
+
+/// Readers with the state lent, accepted and refused for each reason, so many times.
+fn lending(r: &mut Random, functions: &[usize], b: &Bounds, n: usize, take: &mut dyn FnMut(&Call) -> bool) {
+    for &function in functions {
         let alone = REASONS[function].iter().map(std::slice::from_ref);
         for aim in alone.chain([&[][..]]) {
-            for _ in 0..lent {
+            for _ in 0..n {
                 while !take(&Call::Lent(Box::new(purposely(r, function, aim, b)))) {}
             }
         }
@@ -61,13 +93,13 @@ fn hit(faults: &[Fault], aim: &[Why]) -> bool {
     }
 }
 
-/// A random case. What it aims at holds in most; another reason may hide it.
-fn case(r: &mut Random, b: &Bounds) -> Call {
-    let function = r.pick(&[0, 0, 0, 0, 0, 0, 0, 1, 1, 1, 1, 1, 2, 2, 2, 2, 2, 3, 3, 3, 3, 4]);
+/// A random case of one of the functions. What it aims at holds in most; another reason may hide it.
+fn case(r: &mut Random, functions: &[usize], b: &Bounds) -> Call {
+    let function = r.pick(functions);
     let function = if function == 4 && r.one_in(2) { 5 } else { function };
     let aim = match r.below(7) {
         0..=2 if function != 5 => vec![r.pick(REASONS[function])],
-        3 if function < TRANSPORTS => r.pick(&reasons::pairs(function)).to_vec(),
+        3 if PAIRED.contains(&function) => r.pick(&reasons::pairs(function)).to_vec(),
         _ => Vec::new(),
     };
     let holds = |call: &Call| {
@@ -81,13 +113,17 @@ fn case(r: &mut Random, b: &Bounds) -> Call {
         }
         call = make(r, function, &aim, b);
     }
-    if within(&call, b) { call } else { case(r, b) }
+    if within(&call, b) { call } else { case(r, functions, b) }
 }
 
 fn within(call: &Call, b: &Bounds) -> bool {
     match call {
-        Call::UsbRead { t, table, .. } | Call::FlexRayRead { t, table, .. } => t.len() <= b.room && *table <= b.numbers,
-        Call::UsbWrite { packets, lengths, room, .. } | Call::FlexRayWrite { packets, lengths, room, .. } => {
+        Call::UsbRead { t, table, .. } | Call::FlexRayRead { t, table, .. } | Call::UdpRead { t, table, .. } => {
+            t.len() <= b.room && *table <= b.numbers
+        }
+        Call::UsbWrite { packets, lengths, room, .. }
+        | Call::FlexRayWrite { packets, lengths, room, .. }
+        | Call::UdpWrite { packets, lengths, room, .. } => {
             packets.len() <= b.packets && lengths.len() <= b.lengths && *room <= b.room
         }
         Call::Part { t, .. } => t.len() <= b.room,
@@ -102,6 +138,8 @@ fn make(r: &mut Random, function: usize, aim: &[Why], b: &Bounds) -> Call {
         2 => flexray_reading(r, aim, b),
         3 => flexray_writing(r, aim, b),
         4 => parting(r, aim),
+        UDP_READ => datagrams::reading(r, aim, b),
+        UDP_WRITE => datagrams::writing(r, aim, b),
         _ => Call::Kind { direction: r.below(2) as u32, packet: bytes(r, 3) },
     }
 }
@@ -295,6 +333,11 @@ fn counter(r: &mut Random, n: u32) -> u32 {
     }
 }
 
+/// The counter of the next message: mostly one more.
+fn follow(r: &mut Random, c: u32, n: u32) -> u32 {
+    if r.one_in(8) { counter(r, n) } else { (c + 1) % n }
+}
+
 fn too_high(r: &mut Random, n: u32) -> u32 {
     let far = large(r);
     r.pick(&[n, n, n + 1, n + 255, 65_536, far])
@@ -364,10 +407,7 @@ fn sender(r: &mut Random, s: &Usb, from: u32) -> (Vec<u8>, Vec<usize>) {
         t.extend((0..width).map(|i| (l >> (8 * i)) as u8));
         if ctr.is_some() {
             t.extend((0..width).map(|i| (next >> (8 * i)) as u8));
-            next = (next + 1) % counters;
-            if r.one_in(8) {
-                next = counter(r, counters);
-            }
+            next = follow(r, next, counters);
         }
         let fill = start + h - t.len();
         add(r, &mut t, fill, free);

@@ -12,7 +12,7 @@ mod texts;
 mod tree;
 
 use call::{Answer, Call};
-use cases::Bounds;
+use cases::{Bounds, Counts};
 use rule::{Counter, Read, Write};
 
 #[repr(C)]
@@ -34,6 +34,13 @@ struct FlexRaySetting {
     ceiling: u32,
     header: u32,
     align: u32,
+}
+
+#[repr(C)]
+#[derive(Clone, Copy)]
+struct UdpSetting {
+    longest: u32,
+    direction: u32,
 }
 
 #[repr(C)]
@@ -86,12 +93,20 @@ extern "C" {
         s: FlexRaySetting, packets: *const u8, n: usize, lengths: *const u32, count: usize, first: u32, fill: u8,
         out: *mut u8, room: usize,
     ) -> WriteResult;
+    fn xcp_udp_read(s: UdpSetting, t: *const u8, n: usize, c: State, rows: *mut u32, numbers: usize) -> ReadResult;
+    fn xcp_udp_write(
+        s: UdpSetting, packets: *const u8, n: usize, lengths: *const u32, count: usize, first: u32, out: *mut u8, room: usize,
+    ) -> WriteResult;
     fn xcp_part_check(input: *const u8, n: usize, place: u32, length: u32) -> CheckResult;
     fn xcp_kind(direction: u32, packet: *const u8, n: usize) -> u32;
     fn xcp_usb_settings(text: *const u8, n: usize, longest: u32) -> SettingsResult;
 }
 
 const BOUNDS: Bounds = Bounds { numbers: 700_000, room: 300_000, packets: 300_000, lengths: 5_000 };
+
+/// To so many cases a datagram is read at random, and a reader with its state lent is accepted, and refused for each reason.
+const DATAGRAMS: usize = 4;
+const LENT: usize = 1_000;
 
 /// To so many cases there is a text. One in so many is at or past the longest, and has at most so many bytes.
 const TEXTS: usize = 8;
@@ -114,6 +129,10 @@ fn usb(s: &rule::Usb) -> UsbSetting {
 
 fn flexray(s: &rule::FlexRay) -> FlexRaySetting {
     FlexRaySetting { node: s.node, direction: s.direction, ceiling: s.ceiling, header: s.header, align: s.align }
+}
+
+fn udp(s: &rule::Udp) -> UdpSetting {
+    UdpSetting { longest: s.longest, direction: s.direction }
 }
 
 fn settings(answer: &Result<[rule::Usb; 2], (u32, u32)>) -> SettingsResult {
@@ -169,41 +188,52 @@ fn writing(want: &Write, first: u32, got: WriteResult, out: &[u8]) -> bool {
     }
 }
 
+/// Lends a table of so many numbers to a reader. Whether it agrees, and what it answered.
+fn reads(want: &Read, c: Counter, mark: u32, table: usize, read: impl Fn(State, *mut u32) -> ReadResult) -> (bool, String) {
+    let mut rows = lent(table, NUMBER);
+    let c = state(c, mark);
+    let got = read(c, rows[AROUND..].as_mut_ptr());
+    (reading(want, c, got, &rows), format!("{got:?}"))
+}
+
+/// Lends an output of so many bytes to a writer.
+fn writes(want: &Write, first: u32, room: usize, write: impl Fn(*mut u8) -> WriteResult) -> (bool, String) {
+    let mut out = lent(room, BYTE);
+    let got = write(out[AROUND..].as_mut_ptr());
+    (writing(want, first, got, &out), format!("{got:?}"))
+}
+
 /// Whether the library agrees, and what it answered.
 fn agrees(call: &Call, want: &Answer, mark: u32) -> (bool, String) {
     match (call, want) {
         (Call::UsbRead { s, t, c, table }, Answer::Read(want)) => {
-            let mut rows = lent(*table, NUMBER);
-            let c = state(*c, mark);
-            let got = unsafe { xcp_usb_read(usb(s), t.as_ptr(), t.len(), c, rows.as_mut_ptr().add(AROUND), *table) };
-            (reading(want, c, got, &rows), format!("{got:?}"))
+            reads(want, *c, mark, *table, |c, rows| unsafe { xcp_usb_read(usb(s), t.as_ptr(), t.len(), c, rows, *table) })
         }
         (Call::FlexRayRead { s, t, c, table }, Answer::Read(want)) => {
-            let mut rows = lent(*table, NUMBER);
-            let c = state(*c, mark);
-            let got = unsafe { xcp_flexray_read(flexray(s), t.as_ptr(), t.len(), c, rows.as_mut_ptr().add(AROUND), *table) };
-            (reading(want, c, got, &rows), format!("{got:?}"))
+            reads(want, *c, mark, *table, |c, rows| unsafe { xcp_flexray_read(flexray(s), t.as_ptr(), t.len(), c, rows, *table) })
+        }
+        (Call::UdpRead { s, t, c, table }, Answer::Read(want)) => {
+            reads(want, *c, mark, *table, |c, rows| unsafe { xcp_udp_read(udp(s), t.as_ptr(), t.len(), c, rows, *table) })
         }
         (Call::UsbWrite { s, packets, lengths, first, fill, full, room }, Answer::Write(want)) => {
-            let mut out = lent(*room, BYTE);
             let full = if *full { mark } else { 0 };
-            let got = unsafe {
+            writes(want, *first, *room, |out| unsafe {
                 xcp_usb_write(
-                    usb(s), packets.as_ptr(), packets.len(), lengths.as_ptr(), lengths.len(), *first, *fill, full,
-                    out.as_mut_ptr().add(AROUND), *room,
+                    usb(s), packets.as_ptr(), packets.len(), lengths.as_ptr(), lengths.len(), *first, *fill, full, out, *room,
                 )
-            };
-            (writing(want, *first, got, &out), format!("{got:?}"))
+            })
         }
         (Call::FlexRayWrite { s, packets, lengths, first, fill, room }, Answer::Write(want)) => {
-            let mut out = lent(*room, BYTE);
-            let got = unsafe {
+            writes(want, *first, *room, |out| unsafe {
                 xcp_flexray_write(
-                    flexray(s), packets.as_ptr(), packets.len(), lengths.as_ptr(), lengths.len(), *first, *fill,
-                    out.as_mut_ptr().add(AROUND), *room,
+                    flexray(s), packets.as_ptr(), packets.len(), lengths.as_ptr(), lengths.len(), *first, *fill, out, *room,
                 )
-            };
-            (writing(want, *first, got, &out), format!("{got:?}"))
+            })
+        }
+        (Call::UdpWrite { s, packets, lengths, first, room }, Answer::Write(want)) => {
+            writes(want, *first, *room, |out| unsafe {
+                xcp_udp_write(udp(s), packets.as_ptr(), packets.len(), lengths.as_ptr(), lengths.len(), *first, out, *room)
+            })
         }
         (Call::Part { t, place, length }, Answer::Part(want, _)) => {
             let got = unsafe { xcp_part_check(t.as_ptr(), t.len(), *place, *length) };
@@ -245,8 +275,10 @@ fn main() {
         made += 1;
         true
     };
-    cases::each(&mut random::Random(seed), &BOUNDS, count as usize, count as usize / 1_000, &mut take);
-    let texts = texts::Bounds { random: count as usize / TEXTS, most: TEXT, long: LONG };
+    let random = count as usize;
+    let counts = Counts { random, datagrams: random / DATAGRAMS, lent: random / LENT };
+    cases::each(&mut random::Random(seed), &BOUNDS, &counts, &mut take);
+    let texts = texts::Bounds { random: random / TEXTS, most: TEXT, long: LONG };
     texts::each(&mut random::Random(seed), &texts, &mut |call| {
         tree::check(call);
         take(call);

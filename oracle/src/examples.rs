@@ -1,4 +1,4 @@
-//! Document 01's examples, and the block of document 000, chapter 4.2.
+//! Document 01's examples, the block of document 000, chapter 4.2, and examples of our own for datagrams.
 
 use crate::description::settings;
 use crate::rule::*;
@@ -66,8 +66,32 @@ fn check_texts() {
     }
 }
 
+const D: Udp = Udp { longest: 64, direction: 0 };
+
+/// Two packets written and read, an empty datagram, and the refusals that Ask 3 names.
+fn check_datagrams() {
+    let two = "01 00 FF FF FF 03 00 00 00 01 02 03";
+    let reads = |t: &str, c: Counter| udp_read(&D, &hex(t), c, 10);
+    assert_eq!(udp_write(&D, &hex("FF 01 02 03"), &[1, 3], 65_535, 12), wire(two, 1));
+    assert_eq!(reads(two, FRESH), Read::Rows(vec![[4, 1, 65_535, 0, 1], [9, 3, 0, 0, 5]], known(1)));
+    assert_eq!(reads(two, known(65_531)), Read::Rows(vec![[4, 1, 65_535, 4, 1], [9, 3, 0, 0, 5]], known(1)));
+    assert_eq!(reads("", FRESH), Read::Rows(vec![], FRESH));
+    assert_eq!(udp_write(&D, &[], &[], 7, 0), wire("", 7));
+    assert_eq!(reads("01 00 07 00 FF 00 00 08 00", FRESH), Read::Refused(6, 5));
+    assert_eq!(reads("01 00 07 00 FF 01 00 08", FRESH), Read::Refused(5, 5));
+    assert_eq!(reads("41 00 07 00", FRESH), Read::Refused(3, 0));
+    assert_eq!(reads("40 00 07 00", FRESH), Read::Refused(5, 0));
+    assert_eq!(udp_read(&D, &[0; 1_472], FRESH, 10), Read::Refused(6, 0));
+    assert_eq!(udp_read(&D, &[0; 1_473], FRESH, 10), Read::Refused(2, 0));
+    let top = Udp { longest: 1_468, ..D };
+    assert_eq!(udp_write(&top, &[0; 1_465], &[1_464, 1], 0, 2_000), Write::Refused(4, 0));
+    let Write::Bytes(out, 2) = udp_write(&top, &[0; 1_464], &[1_463, 1], 0, 1_472) else { panic!("1,472 bytes are a datagram") };
+    assert_eq!(udp_read(&top, &out, FRESH, 10), Read::Rows(vec![[4, 1_463, 0, 0, 5], [1_471, 1, 1, 0, 5]], known(2)));
+}
+
 pub fn check() {
     check_texts();
+    check_datagrams();
     let twelve = "01 FE FF EE 03 FF 01 02 03 EE EE EE";
     let rows = |a, b| Read::Rows(vec![[2, 1, 254, a, 1], [6, 3, 255, b, 5]], known(0));
     assert_eq!(writes(&U1, "FF 01 02 03", &[1, 3], 254, 0xEE, false), wire(twelve, 0));

@@ -1,6 +1,7 @@
-//! A second reading of document 01 and of Ask 1: `oracle vectors SEED COUNT TEXTS DIR` writes data/cases.bin and stdout of DIR/vectors
-//! and DIR/texts, `oracle hits SEED COUNT TEXTS` only counts. Both print how often each function gave each answer, how often two reasons for
-//! refusal met, and in which ways a text is no block, and fail if an answer, a pair that can meet or such a way never came.
+//! A second reading of document 01 and of Asks 1 and 3: `oracle vectors SEED COUNT DATAGRAMS TEXTS DIR` writes data/cases.bin and stdout of
+//! DIR/vectors and DIR/texts, `oracle hits SEED COUNT DATAGRAMS TEXTS` only counts. Both print how often each function gave each answer, how
+//! often two reasons for refusal met, and in which ways a text is no block, and fail if an answer, a pair that can meet or such a way never
+//! came.
 
 mod call;
 mod cases;
@@ -15,7 +16,7 @@ mod texts;
 mod tree;
 
 use call::Call;
-use cases::Bounds;
+use cases::{Bounds, Counts};
 use std::fs;
 
 /// What the program of crates/vectors has room for.
@@ -49,19 +50,20 @@ fn main() {
     let words: Vec<String> = std::env::args().collect();
     let words: Vec<&str> = words.iter().map(|w| w.as_str()).collect();
     match words[1..] {
-        ["vectors", seed, count, texts, dir] => run(seed, count, texts, Some(dir)),
-        ["hits", seed, count, texts] => run(seed, count, texts, None),
+        ["vectors", seed, count, datagrams, texts, dir] => run([seed, count, datagrams, texts], Some(dir)),
+        ["hits", seed, count, datagrams, texts] => run([seed, count, datagrams, texts], None),
         _ => {
-            eprintln!("oracle vectors SEED COUNT TEXTS DIR | oracle hits SEED COUNT TEXTS");
+            eprintln!("oracle vectors SEED COUNT DATAGRAMS TEXTS DIR | oracle hits SEED COUNT DATAGRAMS TEXTS");
             std::process::exit(2);
         }
     }
 }
 
-fn run(seed: &str, count: &str, texts: &str, dir: Option<&str>) {
-    let seed = seed.parse().expect("SEED is a number");
-    let count = count.parse().expect("COUNT is a number");
-    let texts = texts::Bounds { random: texts.parse().expect("TEXTS is a number"), most: TEXT, long: LONG };
+fn run(numbers: [&str; 4], dir: Option<&str>) {
+    let [seed, random, datagrams, texts] = numbers.map(|n| n.parse::<usize>().expect("SEED, COUNT, DATAGRAMS and TEXTS are numbers"));
+    let seed = seed as u64;
+    let counts = Counts { random, datagrams, lent: LENT };
+    let texts = texts::Bounds { random: texts, most: TEXT, long: LONG };
     let mut hits = hits::Hits::new();
     let mut keep = |call: &Call, files: &mut Files, body: Vec<u8>| {
         let answer = call.answer();
@@ -83,7 +85,7 @@ fn run(seed: &str, count: &str, texts: &str, dir: Option<&str>) {
             take(&Call::Kind { direction, packet: vec![first] });
         }
     }
-    cases::each(&mut random::Random(seed), &BOUNDS, count, LENT, &mut take);
+    cases::each(&mut random::Random(seed), &BOUNDS, &counts, &mut take);
     texts::each(&mut random::Random(seed), &texts, &mut |call| {
         tree::check(call);
         keep(call, &mut written, record::record(call));

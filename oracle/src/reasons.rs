@@ -4,7 +4,7 @@
 //! that nothing is said of messages, frames, or the room they need. What follows a fault is read on where the layout starts anew: at the
 //! next data packet of a single or multiple transfer. Rows and bytes that need room are those left of the first fault.
 
-use crate::call::{FUNCTIONS, SETTINGS};
+use crate::call::{FUNCTIONS, SETTINGS, UDP_READ};
 use crate::description::{told, Ending, Wanted, LONGEST_TEXT, WANTED};
 use crate::rule::*;
 
@@ -13,7 +13,7 @@ pub enum Why {
     Setting,
     /// The state expected or the first counter.
     Ctr,
-    /// A transfer over 262,144 bytes, or a text over 16,384.
+    /// A transfer over 262,144 bytes, a datagram over 1,472, or a text over 16,384.
     Long,
     /// Over 4,096 lengths.
     Count,
@@ -35,11 +35,13 @@ pub enum Why {
     /// A length that does not fit.
     Unfit,
     Past,
-    /// A single data packet without a message, or a first LEN of 0.
+    /// One to three bytes left over in a datagram.
+    Left,
+    /// A single data packet without a message, a frame's first LEN of 0, or any of a datagram.
     Bare,
     /// A table or output too small.
     Room,
-    /// An output over 262,144 bytes.
+    /// An output over 262,144 bytes, or a datagram over 1,472.
     Far,
     /// A word that cannot stand.
     Wrong,
@@ -67,7 +69,7 @@ impl Why {
             Long | Count | Sum | Nothing | Several => 2,
             Zero | Over | Unfit => 3,
             Room | Far => 4,
-            Past => 5,
+            Past | Left => 5,
             Short | Bare => 6,
             Node => 7,
             Odd | Ceiling => 8,
@@ -82,7 +84,7 @@ impl Why {
             Long | Count | Sum | Nothing | Several | Odd | Ceiling => 1,
             Short | Wrong => 2,
             Node | Early | Comment | Quote => 3,
-            Zero | Over | Unfit | Past | Bare => 4,
+            Zero | Over | Unfit | Past | Left | Bare => 4,
             Room | Far | Size | Longest => 5,
         }
     }
@@ -101,10 +103,15 @@ const READER: &[Why] = &[Setting, Ctr, Long, Over, Past, Bare, Room];
 const FRAME_READER: &[Why] = &[Setting, Ctr, Odd, Ceiling, Short, Node, Bare, Past, Room];
 const WRITER: &[Why] = &[Setting, Ctr, Count, Sum, Zero, Over, Unfit, Room, Far];
 const FRAME_WRITER: &[Why] = &[Setting, Ctr, Count, Sum, Nothing, Several, Zero, Unfit, Room];
+const DATAGRAM_READER: &[Why] = &[Setting, Ctr, Long, Over, Past, Left, Bare, Room];
+const DATAGRAM_WRITER: &[Why] = &[Setting, Ctr, Count, Sum, Zero, Over, Room, Far];
 const DESCRIPTION: &[Why] = &[Long, Wrong, Early, Comment, Quote, Size, Longest];
 
 /// The reasons of each function.
-pub const REASONS: [&[Why]; FUNCTIONS] = [READER, WRITER, FRAME_READER, FRAME_WRITER, &[Past], &[], READER, FRAME_READER, DESCRIPTION];
+pub const REASONS: [&[Why]; FUNCTIONS] = [
+    READER, WRITER, FRAME_READER, FRAME_WRITER, &[Past], &[], READER, FRAME_READER, DATAGRAM_READER, DATAGRAM_WRITER, DATAGRAM_READER,
+    DESCRIPTION,
+];
 
 /// Reasons that never hold together of a frame that is read, of a list that is written to a frame, or of a text.
 const APART_READ: [(Why, Why); 6] = [(Ceiling, Short), (Short, Room), (Bare, Bare), (Bare, Past), (Bare, Room), (Past, Past)];
@@ -120,7 +127,9 @@ pub fn meet(function: usize, a: Why, b: Why) -> bool {
         _ => &[],
     };
     let once = a == b && !a.placed();
-    a.rank() <= b.rank() && !once && !apart.contains(&(a, b)) && !apart.contains(&(b, a))
+    // Nothing is said behind a fault of a datagram, and at one header 3 comes before 5.
+    let alone = function == UDP_READ && a.placed() && b.placed() && [a, b] != [Over, Past];
+    a.rank() <= b.rank() && !once && !alone && !apart.contains(&(a, b)) && !apart.contains(&(b, a))
 }
 
 /// The pairs of reasons that can meet.
@@ -172,6 +181,10 @@ fn usb_laid(s: &Usb) -> bool {
 
 fn flexray_laid(s: &FlexRay) -> bool {
     flexray_sound(&FlexRay { direction: 0, ..*s })
+}
+
+fn udp_laid(s: &Udp) -> bool {
+    udp_sound(&Udp { direction: 0, ..*s })
 }
 
 pub fn usb_reader(s: &Usb, t: &[u8], c: Counter, table: usize) -> Vec<Fault> {
@@ -245,7 +258,33 @@ pub fn flexray_layout(s: &FlexRay, t: &[u8]) -> (Option<Fault>, usize) {
     (None, rows)
 }
 
-/// What both writers may refuse without a look at the layout.
+pub fn udp_reader(s: &Udp, t: &[u8], c: Counter, table: usize) -> Vec<Fault> {
+    let counter = c.known && exceeds(Some(UDP_COUNTERS), c.expected);
+    let mut all = held(0, &[(Setting, !udp_sound(s)), (Ctr, counter), (Long, t.len() > LONGEST_DATAGRAM)]);
+    if udp_laid(s) {
+        let (faults, rows) = udp_layout(s, t);
+        all.extend(faults);
+        all.extend(held(0, &[(Room, table < 5 * rows)]));
+    }
+    all
+}
+
+/// The faults of a datagram, which stand at one place, and the rows left of it.
+pub fn udp_layout(s: &Udp, t: &[u8]) -> (Vec<Fault>, usize) {
+    let (mut q, mut rows) = (0, 0);
+    while q + UDP_HEADER <= t.len() {
+        let len = field(t, q, 2);
+        let behind = q + UDP_HEADER + len;
+        let faults = held(q, &[(Bare, len == 0), (Over, len > s.longest as usize), (Past, behind > t.len())]);
+        if !faults.is_empty() {
+            return (faults, rows);
+        }
+        (q, rows) = (behind, rows + 1);
+    }
+    (held(q, &[(Left, q < t.len())]), rows)
+}
+
+/// What the writers may refuse without a look at the layout.
 fn list_faults(sound: bool, counters: Option<u32>, packets: &[u8], lengths: &[u32], first: u32) -> Vec<Fault> {
     let sum: u64 = lengths.iter().map(|&l| l as u64).sum();
     let (count, unequal) = (lengths.len() > MOST_LENGTHS, sum != packets.len() as u64);
@@ -324,6 +363,23 @@ pub fn flexray_size(s: &FlexRay, lengths: &[u32]) -> usize {
     let ends = flexray_ends(s, lengths);
     let right = ends.iter().zip(lengths).take_while(|(&end, &l)| l > 0 && end <= s.ceiling as usize);
     right.last().map_or(0, |(&end, _)| up(end, 2))
+}
+
+pub fn udp_writer(s: &Udp, packets: &[u8], lengths: &[u32], first: u32, room: usize) -> Vec<Fault> {
+    let mut all = list_faults(udp_sound(s), Some(UDP_COUNTERS), packets, lengths, first);
+    if udp_laid(s) {
+        for (i, &l) in lengths.iter().enumerate() {
+            all.extend(held(i, &[(Over, l > s.longest)]));
+        }
+        let size = udp_size(s, lengths);
+        all.extend(held(0, &[(Room, size > room), (Far, size > LONGEST_DATAGRAM)]));
+    }
+    all
+}
+
+/// The bytes of the messages left of the first wrong length.
+pub fn udp_size(s: &Udp, lengths: &[u32]) -> usize {
+    lengths.iter().take_while(|&&l| l > 0 && l <= s.longest).map(|&l| UDP_HEADER + l as usize).sum()
 }
 
 pub fn parts(n: usize, place: u32, length: u32) -> Vec<Fault> {

@@ -78,6 +78,10 @@ fn flexray(s: &FlexRay) -> [u32; 6] {
     [s.node, s.direction, s.ceiling, s.header, s.align, 0]
 }
 
+fn udp(s: &Udp) -> [u32; 6] {
+    [s.longest, s.direction, 0, 0, 0, 0]
+}
+
 fn text_record(text: &[u8], longest: u32) -> Vec<u8> {
     let mut out = Vec::new();
     word(&mut out, longest);
@@ -98,6 +102,8 @@ pub fn record(call: &Call) -> Vec<u8> {
         Call::FlexRayWrite { s, packets, lengths, first, fill, room } => {
             (flexray(s), [0, *first, *room as u32, *fill as u32], packets, lengths)
         }
+        Call::UdpRead { s, t, c, table } => (udp(s), [c.known as u32, c.expected, *table as u32, 0], t, &none),
+        Call::UdpWrite { s, packets, lengths, first, room } => (udp(s), [0, *first, *room as u32, 0], packets, lengths),
         Call::Part { t, place, length } => ([0; 6], [*place, *length, 0, 0], t, &none),
         Call::Kind { direction, packet } => ([*direction, 0, 0, 0, 0, 0], [0; 4], packet, &none),
         Call::Lent(_) => unreachable!("a state is lent once"),
@@ -131,8 +137,8 @@ fn rows_digest(rows: &[Row], untouched: usize) -> u32 {
 /// The length of the table or output that is lent.
 fn lent(call: &Call) -> usize {
     match call {
-        Call::UsbRead { table, .. } | Call::FlexRayRead { table, .. } => *table,
-        Call::UsbWrite { room, .. } | Call::FlexRayWrite { room, .. } => *room,
+        Call::UsbRead { table, .. } | Call::FlexRayRead { table, .. } | Call::UdpRead { table, .. } => *table,
+        Call::UsbWrite { room, .. } | Call::FlexRayWrite { room, .. } | Call::UdpWrite { room, .. } => *room,
         Call::Lent(call) => lent(call),
         _ => 0,
     }

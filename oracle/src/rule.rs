@@ -1,4 +1,4 @@
-//! Readers, writers, part check and kinds, by straightforward code from document 01 alone.
+//! Readers, writers, part check and kinds, by straightforward code from document 01 and, of datagrams, Ask 3 alone.
 //! Numbers are wide and lists are owned, so that nothing here wraps or cuts.
 
 /// A USB endpoint's setting.
@@ -20,6 +20,13 @@ pub struct FlexRay {
     pub ceiling: u32,
     pub header: u32,
     pub align: u32,
+}
+
+/// What is set for datagrams.
+#[derive(Clone, Copy, Debug)]
+pub struct Udp {
+    pub longest: u32,
+    pub direction: u32,
 }
 
 /// The counter state: a mark and the counter expected next.
@@ -44,6 +51,7 @@ pub enum Write {
 }
 
 pub const LONGEST_TRANSFER: usize = 262_144;
+pub const LONGEST_DATAGRAM: usize = 1_472;
 pub const MOST_LENGTHS: usize = 4_096;
 pub const SINGLE: u32 = 0;
 pub const MULTIPLE: u32 = 1;
@@ -94,6 +102,10 @@ pub fn flexray_sound(s: &FlexRay) -> bool {
     s.node <= 255 && s.direction <= 1 && s.ceiling % 2 == 0 && (8..=254).contains(&s.ceiling) && aligns.contains(&s.align)
 }
 
+pub fn udp_sound(s: &Udp) -> bool {
+    (8..=1_468).contains(&s.longest) && s.direction <= 1
+}
+
 /// How many values a USB header's counter has, if it carries one.
 pub fn usb_counters(s: &Usb) -> Option<u32> {
     let (_, width, counter) = usb_header(s.header)?;
@@ -103,6 +115,10 @@ pub fn usb_counters(s: &Usb) -> Option<u32> {
 pub fn flexray_counters(s: &FlexRay) -> Option<u32> {
     flexray_header(s.header)?.1.map(|_| 256)
 }
+
+/// How many values a datagram's counter has, and the bytes of a header, LEN word and CTR word.
+pub const UDP_COUNTERS: u32 = 65_536;
+pub const UDP_HEADER: usize = 4;
 
 pub fn kind(direction: u32, first: u8) -> u32 {
     if direction == 0 {
@@ -191,14 +207,14 @@ pub fn usb_read(s: &Usb, t: &[u8], c: Counter, table: usize) -> Read {
     Read::Rows(rows, state)
 }
 
-fn put(out: &mut Vec<u8>, value: usize, width: usize) {
+pub fn put(out: &mut Vec<u8>, value: usize, width: usize) {
     out.push((value % 256) as u8);
     if width == 2 {
         out.push((value / 256) as u8);
     }
 }
 
-/// The refusals 1 and 2 that both writers share.
+/// The refusals 1 and 2 that the writers share.
 fn lists(counters: Option<u32>, packets: &[u8], lengths: &[u32], first: u32) -> Option<Write> {
     if let Some(n) = counters {
         if first > n - 1 {
@@ -370,6 +386,67 @@ pub fn flexray_write(s: &FlexRay, packets: &[u8], lengths: &[u32], first: u32, f
     }
     if len.is_some() && start - 1 < n {
         out[start - 1] = 0;
+    }
+    Write::Bytes(out, next)
+}
+
+pub fn udp_read(s: &Udp, t: &[u8], c: Counter, table: usize) -> Read {
+    if !udp_sound(s) || (c.known && c.expected > 65_535) {
+        return Read::Refused(1, 0);
+    }
+    if t.len() > LONGEST_DATAGRAM {
+        return Read::Refused(2, 0);
+    }
+    let mut state = c;
+    let mut rows = Vec::new();
+    let mut left = t;
+    while !left.is_empty() {
+        let place = (t.len() - left.len()) as u32;
+        let &[len_low, len_high, ctr_low, ctr_high, ref behind @ ..] = left else {
+            return Read::Refused(5, place);
+        };
+        let len = u16::from_le_bytes([len_low, len_high]) as u32;
+        if len == 0 {
+            return Read::Refused(6, place);
+        }
+        if len > s.longest {
+            return Read::Refused(3, place);
+        }
+        if len as usize > behind.len() {
+            return Read::Refused(5, place);
+        }
+        let (packet, next) = behind.split_at(len as usize);
+        let got = u16::from_le_bytes([ctr_low, ctr_high]) as u32;
+        let (gap, then) = count(state, got, UDP_COUNTERS);
+        rows.push([place + 4, len, got, gap, kind(s.direction, packet[0])]);
+        (state, left) = (then, next);
+    }
+    if table < 5 * rows.len() {
+        return Read::Refused(4, 0);
+    }
+    Read::Rows(rows, state)
+}
+
+pub fn udp_write(s: &Udp, packets: &[u8], lengths: &[u32], first: u32, room: usize) -> Write {
+    if !udp_sound(s) {
+        return Write::Refused(1, 0);
+    }
+    if let Some(refused) = lists(Some(UDP_COUNTERS), packets, lengths, first) {
+        return refused;
+    }
+    if let Some(i) = lengths.iter().position(|l| !(1..=s.longest).contains(l)) {
+        return Write::Refused(3, i as u32);
+    }
+    let (mut out, mut next, mut left) = (Vec::new(), first, packets);
+    for &l in lengths {
+        let (packet, behind) = left.split_at(l as usize);
+        put(&mut out, packet.len(), 2);
+        put(&mut out, next as usize, 2);
+        out.extend_from_slice(packet);
+        (next, left) = ((next + 1) % UDP_COUNTERS, behind);
+    }
+    if out.len() > room || out.len() > LONGEST_DATAGRAM {
+        return Write::Refused(4, 0);
     }
     Write::Bytes(out, next)
 }

@@ -1,4 +1,5 @@
-// Runs the examples of document 01 and prints what is answered; the file `stdout` holds what that document says.
+// Runs the examples of document 01, and some of our own for datagrams, and prints what is answered; the file `stdout` holds what that
+// document and Ask 3 say.
 use libc::STDOUT_FILENO;
 use packet::Counter;
 use packet::Reading;
@@ -248,10 +249,60 @@ fn flexray_examples() {
     flexray_reads(b"header 0 reads it:", r(0, 1), &[0x07, 0xFF, 0x00, 0xEE]);
 }
 
+// D: datagrams with packets of at most 64 bytes.
+fn d() -> udp::Setting {
+    udp::Setting {
+        longest: 64,
+        direction: 0,
+    }
+}
+
+fn udp_reads(text: &[u8], t: &[u8]) {
+    let mut rows = [0u32; 20];
+    say(text);
+    let answer = udp_reader::read(d(), t, Counter::fresh(), &mut rows);
+    read_told(answer, &rows);
+}
+
+fn udp_writes(text: &[u8], packets: &[u8], lengths: &[u32], first: u32) {
+    let mut out = [0u8; 32];
+    say(text);
+    let answer = udp_writer::write(d(), packets, lengths, first, &mut out);
+    write_told(answer, &out);
+}
+
+fn udp_examples() {
+    let two = b"\x01\x00\xFF\xFF\xFF\x03\x00\x00\x00\x01\x02\x03";
+    udp_writes(
+        b"D writes [FF], [01 02 03]:",
+        &[0xFF, 0x01, 0x02, 0x03],
+        &[1, 3],
+        65535,
+    );
+    udp_reads(b"D reads the 12 bytes, fresh:", two);
+    udp_writes(b"D writes no packets:", &[], &[], 7);
+    udp_reads(b"D reads no bytes:", &[]);
+}
+
+fn udp_refusal_examples() {
+    udp_reads(
+        b"LEN zero behind a message:",
+        &[0x01, 0x00, 0x07, 0x00, 0xFF, 0x00, 0x00, 0x08, 0x00],
+    );
+    udp_reads(
+        b"three bytes left over:",
+        &[0x01, 0x00, 0x07, 0x00, 0xFF, 0x01, 0x00, 0x08],
+    );
+    udp_reads(b"LEN over X:", &[0x41, 0x00, 0x07, 0x00]);
+    udp_reads(b"a packet cut:", &[0x02, 0x00, 0x07, 0x00, 0xFF]);
+}
+
 fn main() {
     usb_writer_examples();
     usb_counter_examples();
     usb_reader_examples();
     usb_refusal_examples();
     flexray_examples();
+    udp_examples();
+    udp_refusal_examples();
 }

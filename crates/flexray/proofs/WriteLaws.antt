@@ -10,6 +10,7 @@ use Rattle.layout.proofs.TestLaws.{why-passed, why-failed, passed, failed}
 use Rattle.packet.specs.declared.Writing.the-variants as W
 use Rattle.packet.specs.Message.{Msg}
 use Rattle.packet.specs.Counter.{holds, later}
+use Rattle.packet.specs.Limit.{mostBytes}
 use Rattle.packet.specs.Packets.{joined, packets, mismatched, Matched, first}
 use Rattle.packet.proofs.AnswerLaws.{Exact}
 use Rattle.packet.proofs.CounterLaws.{exceeds, not-held}
@@ -84,6 +85,7 @@ module _ (s : Setting) (bs ns : List ℕ) (c fill : ℕ) (out : List ℕ) where
         index = index;
         count = length ns;
         bytes = frame s fill c (packets ns bs);
+        most = mostBytes;
         next = later (W s) (moved (length ns)) c;
       }
 

@@ -86,7 +86,7 @@ pub data WriteRefusal (s : Setting) (bs ns : List ℕ) (c fill bytes : ℕ) : �
   unfit : {i : ℕ} → Willing s c → Matched ns bs → Counted s ns → i < length ns → ((j : ℕ) → j < i → Fit s (span s ns j))
       → Unfit s (span s ns i) → WriteRefusal s bs ns c fill bytes 3 i
   room : Willing s c → Matched ns bs → Counted s ns → ((j : ℕ) → j < length ns → Fit s (span s ns j))
-      → NoRoom bytes (length (frame s fill c (packets ns bs))) → WriteRefusal s bs ns c fill bytes 4 0
+      → NoRoom mostBytes bytes (length (frame s fill c (packets ns bs))) → WriteRefusal s bs ns c fill bytes 4 0
 
 -- what it is for such a write to be accepted with k bytes and the next counter d
 pub record WriteAccept (s : Setting) (bs ns : List ℕ) (c fill bytes k d : ℕ) : Type 0 where

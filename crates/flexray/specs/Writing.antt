@@ -8,6 +8,7 @@ use Rattle.layout.specs.Field.{values, puts}
 use Rattle.layout.specs.Walk.{Out}
 use Rattle.packet.specs.Message.{Msg}
 use Rattle.packet.specs.Counter.{holds, later}
+use Rattle.packet.specs.Limit.{mostBytes}
 use Rattle.packet.specs.Packets.{packets, mismatched, first}
 use Rattle.packet.specs.declared.Writing.{Writing}
 use Rattle.packet.specs.Answer.{Answer, weighed, stored}
@@ -81,4 +82,4 @@ composed s bs ns c fill =
     (frame s fill c (packets ns bs))
 
 unfoldable pub writeOf : Setting → List ℕ → List ℕ → ℕ → ℕ → List ℕ → Answer Writing
-writeOf s bs ns c fill out = stored (later (W s) (moved (length ns)) c) out (composed s bs ns c fill)
+writeOf s bs ns c fill out = stored mostBytes (later (W s) (moved (length ns)) c) out (composed s bs ns c fill)

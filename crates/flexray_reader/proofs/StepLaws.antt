@@ -21,7 +21,7 @@ use Rattle.reading.specs.Loops.{Standing}
 use Rattle.reading.specs.Reads.{Tells}
 use Rattle.reading.specs.Step.{head, len}
 use Rattle.reading.specs.Step.{seen as seenBy}
-use Rattle.reading.proofs.ViewLaws.{View, View.rest, View.empty, View.nothing, View.over, View.past, View.message, view}
+use Rattle.reading.proofs.ViewLaws.{View, View.rest, View.empty, View.cut, View.zeroed, View.nothing, View.over, View.past, View.message, view}
 
 -- a place is the end of a packet, and the frame is one data packet
 pub record Stands (t : List ℕ) (a : At) : Type 0 where
@@ -58,7 +58,9 @@ module _ (p : Plan) (t : List ℕ) (a : At) (h : Stands t a) where
   told : {v : Seen} → View (furtherOf p) t a v → Tells (ahead (setting p) t) (Stands t) t a v
   told (rest g u z l) = absurd (omega arith)
   told (empty e z l) = absurd (omega arith)
-  told (nothing z f g) = ahead-by ∙ rw z
+  told (cut e l u) = absurd (omega arith)
+  told (zeroed e z l) = absurd (omega arith)
+  told (nothing z f g i) = ahead-by ∙ rw z
   told (over y f l) = absurd (f refl)
   told (past y f l) = ahead-by ∙ rw (ne-eqb (len (furtherOf p) t a) 0 (omega (arith, y .some)), lt-ltb (length t) _ l)
   told (message y f l) = (

@@ -112,7 +112,7 @@ module _ {p : Plan} {b : Begin} {bs ns : List ℕ} {end : ℕ} (g : Fitted p b b
 
   pub roomy : {x : Bool} {m : ℕ} → x ≡ (ltb m (end + end % 2) || ltb mostBytes (end + end % 2)) → x ≡ false → Roomy p b bs ns end m
   roomy {m = m} e h =
-      let (room, most) = has-room m (end + end % 2) (sym e ∙ h) in
+      let (room, most) = has-room mostBytes m (end + end % 2) (sym e ∙ h) in
       let l = rw split at long in
       record { fitted = g; room = room; most = most; head = omega (arith, frame-past t one others, l) }
 
@@ -140,6 +140,7 @@ call s c free bs ns =
       index = firstOf (misfit s) (spans s ns);
       count = length ns;
       bytes = frame s free c (packets ns bs);
+      most = mostBytes;
       next = later (W s) (moved (length ns)) c;
     }
 
@@ -224,7 +225,7 @@ module _ (p : Plan) (b : Begin) (bs ns out : List ℕ) where
         → After (p .ctrwidth) (b .ctr) n → Gives answer (W.Bytes (end + end % 2) n) new
     unfolding moved later
     written h i u =
-        let (room, most) = has-room (length out) (end + end % 2) (sym e ∙ h) in
+        let (room, most) = has-room mostBytes (length out) (end + end % 2) (sym e ∙ h) in
         gives-so weighed-so
         (L.written w out (ready (k .begun .ready) (k .held)) matched index (long f) room most i (u .is ∙ rw (k .begun .ready .ctrwidth)))
 

@@ -123,7 +123,7 @@ fn write_fitted(
         r (now (out .exit)) ⌝ }
 {
     let whole = end + end % 2;
-    if crowded(out.len(), whole) {
+    if crowded(262144, out.len(), whole) {
         return refuse(out, 4, 0);
     }
     compose(p, b, packets, lengths, end, out);

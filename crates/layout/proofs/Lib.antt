@@ -1,6 +1,7 @@
 pub mod FieldLaws
 pub mod LeafLaws
 pub mod MultipleLaws
+pub mod OutcomeLaws
 pub mod PartLaws
 pub mod RunLaws
 pub mod TableLaws

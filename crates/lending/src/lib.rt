@@ -1,5 +1,6 @@
 // Callers of the readers with the state lent. Each holds a state, lends it for the call, and gives it back as the call left it.
 ghost use Rattle.flexray.specs.Reading.{readOf as flexrayReadOf};
+ghost use Rattle.udp.specs.Reading.{readOf as udpReadOf};
 ghost use Rattle.usb.specs.Reading.{readOf as usbReadOf};
 ghost use Rattle.lending.specs.Lends.{Lends};
 use lent::Told;
@@ -24,5 +25,13 @@ pub fn flexray_lent(s: flexray::Setting, t: &[u8], c: Counter, rows: &mut [u32])
 {
     let mut state = c;
     let told = flexray_reader::read_lent(s, t, &mut state, rows);
+    Lent { told, state }
+}
+
+pub fn udp_lent(s: udp::Setting, t: &[u8], c: Counter, rows: &mut [u32]) -> Lent
+    ensures { λ r. ⌜ Lends (udpReadOf s (now (t .entry)) c (now (rows .entry))) c r (now (rows .exit)) ⌝ }
+{
+    let mut state = c;
+    let told = udp_reader::read_lent(s, t, &mut state, rows);
     Lent { told, state }
 }

@@ -4,7 +4,7 @@ ghost use mathlib.Core.Bool.{_||_};
 ghost use Prim.Native.Nat.{_<_};
 ghost use lib.Dec.{ltb};
 ghost use Rattle.packet.specs.Answer.{Gives, writeRefused};
-ghost use Rattle.packet.specs.Limit.{mostBytes, Short};
+ghost use Rattle.packet.specs.Limit.{Short};
 ghost use Rattle.packet.specs.Packets.{mismatched as mismatchedOf};
 ghost use Rattle.lengths.specs.Lengths.{Few, Sum, misfitOf};
 use layout::either;
@@ -54,9 +54,9 @@ pub fn refuse_misfit(out: &mut [u8], lengths: &[u32], packets: &[u8], i: usize) 
     refuse(out, 3, i)
 }
 
-// Whether n bytes do not fit an output of so many, or exceed the longest transfer.
-pub fn crowded(room: usize, n: usize) -> bool
-    ensures { λ r. ⌜ r ≡ (ltb room n || ltb mostBytes n) ⌝ }
+// Whether n bytes do not fit an output of so many, or exceed the most that may be written.
+pub fn crowded(most: usize, room: usize, n: usize) -> bool
+    ensures { λ r. ⌜ r ≡ (ltb room n || ltb most n) ⌝ }
 {
-    either(room < n, 262144 < n)
+    either(room < n, most < n)
 }

@@ -3,9 +3,11 @@ pub mod CounterLaws
 pub mod KindLaws
 pub mod PacketsLaws
 pub mod PartLaws
+pub mod ReadTableLaws
 pub mod ReaderLaws
 pub mod RowLaws
 pub mod SeenLaws
 pub mod TakeLaws
 pub mod WeighLaws
+pub mod WriteTableLaws
 pub mod WriterLaws

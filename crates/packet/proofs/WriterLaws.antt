@@ -13,31 +13,31 @@ use Rattle.layout.proofs.TestLaws.{Tells, Tells.passes, Tells.fails, why-passed
 use Rattle.packet.specs.declared.Writing.{Writing}
 use Rattle.packet.specs.declared.Writing.the-variants as W
 use Rattle.packet.specs.Answer.{Answer, Ready, writeRefused, fewBytes, stored, weighed, NoRoom, NoRoom.small, NoRoom.long}
-use Rattle.packet.specs.Limit.{mostBytes}
 use Rattle.packet.proofs.AnswerLaws.{Exact, Unsettled, Settled, Apart, refuses, accepts, why-refused, why-accepted, keeps, put-front, kept-behind}
 
 apart-write : {next : ℕ} → Apart {R = ℕ} W.Refused (λ bs. W.Bytes (length bs) next)
 apart-write = record { number = λ e. cc; place = λ e. cc; never = λ e. let z : _≡_ {A = ℕ} 0 1 = cc in omega arith }
 
 -- the test of the output, as what it tells
-module _ (out bs : List ℕ) where
+module _ (most : ℕ) (out bs : List ℕ) where
   abbrev Fits : Type 0
-  Fits = length bs ≤ min (length out) mostBytes
+  Fits = length bs ≤ min (length out) most
 
-  room-tells : Tells (NoRoom (length out) (length bs)) Fits (fewBytes out bs)
-  room-tells = at (ltb (length out) (length bs)) (fewBytes out bs) refl refl
+  room-tells : Tells (NoRoom most (length out) (length bs)) Fits (fewBytes most out bs)
+  room-tells = at (ltb (length out) (length bs)) (fewBytes most out bs) refl refl
     where
-      at : (a b : Bool) → ltb (length out) (length bs) ≡ a → fewBytes out bs ≡ b → Tells (NoRoom (length out) (length bs)) Fits b
-      at a false ga gb = fails (ltb-false (min (length out) mostBytes) (length bs) gb)
+      at : (a b : Bool) → ltb (length out) (length bs) ≡ a → fewBytes most out bs ≡ b → Tells (NoRoom most (length out) (length bs)) Fits b
+      at a false ga gb = fails (ltb-false (min (length out) most) (length bs) gb)
       at true true ga gb = passes (small (ltb-true (length out) (length bs) ga))
       at false true ga gb =
-          passes (long (omega (arith, ltb-true (min (length out) mostBytes) (length bs) gb, ltb-false (length out) (length bs) ga)))
+          passes (long (omega (arith, ltb-true (min (length out) most) (length bs) gb, ltb-false (length out) (length bs) ga)))
 
-  no-room-fits : NoRoom (length out) (length bs) → Fits → ⊥
+  no-room-fits : NoRoom most (length out) (length bs) → Fits → ⊥
   no-room-fits (small h) l = omega arith
   no-room-fits (long h) l = omega arith
 
--- a call: of `count` lengths the one at `index` is the first that does not fit; the bytes that it would write, and the next counter
+-- a call: of `count` lengths the one at `index` is the first that does not fit; the bytes that it would write, of which there may be at most so many, and
+-- the next counter
 pub record Call : Type 0 where
   pub sound : Bool
   pub held : Bool
@@ -45,13 +45,14 @@ pub record Call : Type 0 where
   pub index : ℕ
   pub count : ℕ
   pub bytes : List ℕ
+  pub most : ℕ
   pub next : ℕ
 
 abbrev composed : Call → Out ℕ
 composed w = weighed (w .sound) (w .held) (w .mismatch) (w .index) (w .count) (w .bytes)
 
 abbrev pub answerOf : Call → List ℕ → Answer Writing
-answerOf w out = stored (w .next) out (composed w)
+answerOf w out = stored (w .most) (w .next) out (composed w)
 
 -- what was weighed, each with its reason
 data Weighed (w : Call) : Out ℕ → Type 0 where
@@ -87,7 +88,8 @@ pub data Unwritten (w : Call) (room : ℕ) : ℕ → ℕ → Type 0 where
   over : w .held ≡ false → Unwritten w room 1 0
   mismatched : Ready (w .sound) (w .held) → w .mismatch ≡ true → Unwritten w room 2 0
   misfit : Ready (w .sound) (w .held) → w .mismatch ≡ false → w .index < w .count → Unwritten w room 3 (w .index)
-  crowded : Ready (w .sound) (w .held) → w .mismatch ≡ false → w .count ≤ w .index → NoRoom room (length (w .bytes)) → Unwritten w room 4 0
+  crowded : Ready (w .sound) (w .held) → w .mismatch ≡ false → w .count ≤ w .index → NoRoom (w .most) room (length (w .bytes))
+      → Unwritten w room 4 0
 
 -- a refusal has one of document 01's numbers
 unwritten-number : {w : Call} {room n p : ℕ} → Unwritten w room n p → (0 < n) × (n ≤ 8)
@@ -103,7 +105,7 @@ pub record Written (w : Call) (bytes k d : ℕ) : Type 0 where
   pub matched : w .mismatch ≡ false
   pub fit : w .count ≤ w .index
   pub room : length (w .bytes) ≤ bytes
-  pub most : length (w .bytes) ≤ mostBytes
+  pub most : length (w .bytes) ≤ w .most
   pub count : k ≡ length (w .bytes)
   pub counter : d ≡ w .next
 
@@ -111,38 +113,38 @@ module _ (w : Call) (out : List ℕ) where
   abbrev bytesTold : List ℕ → Writing
   bytesTold xs = W.Bytes (length xs) (w .next)
 
-  not-settled : {n p : ℕ} → Unwritten w (length out) n p → Unsettled (fewBytes out) n p (composed w)
+  not-settled : {n p : ℕ} → Unwritten w (length out) n p → Unsettled (fewBytes (w .most) out) n p (composed w)
   not-settled (unsound e) = rw (weighs w (Weighed.unsound e)) Unsettled.judged
   not-settled (over e) = rw (weighs w (Weighed.over e)) Unsettled.judged
   not-settled (mismatched r e) = rw (weighs w (Weighed.mismatched r e)) Unsettled.judged
   not-settled (misfit r e l) = rw (weighs w (Weighed.misfit r e l)) Unsettled.judged
   not-settled (crowded r e l h) =
-      rw (weighs w (Weighed.fit r e l)) (Unsettled.crowded (passed (no-room-fits out (w .bytes)) (room-tells out (w .bytes)) h))
+      rw (weighs w (Weighed.fit r e l)) (Unsettled.crowded (passed (no-room-fits (w .most) out (w .bytes)) (room-tells (w .most) out (w .bytes)) h))
 
   pub unwritten : {n p : ℕ} → Unwritten w (length out) n p → answerOf w out ≡ writeRefused out n p
-  unwritten u = refuses W.Refused bytesTold (fewBytes out) (λ xs. xs) out (not-settled u)
+  unwritten u = refuses W.Refused bytesTold (fewBytes (w .most) out) (λ xs. xs) out (not-settled u)
 
   why-unwritten : {n p : ℕ} → answerOf w out .answer ≡ W.Refused n p → Unwritten w (length out) n p
-  why-unwritten e = at (why-weighed w) (why-refused W.Refused bytesTold (fewBytes out) (λ xs. xs) out apart-write (composed w) e)
+  why-unwritten e = at (why-weighed w) (why-refused W.Refused bytesTold (fewBytes (w .most) out) (λ xs. xs) out apart-write (composed w) e)
     where
-      at : {n p : ℕ} {o : Out ℕ} → Weighed w o → Unsettled (fewBytes out) n p o → Unwritten w (length out) n p
+      at : {n p : ℕ} {o : Out ℕ} → Weighed w o → Unsettled (fewBytes (w .most) out) n p o → Unwritten w (length out) n p
       at (Weighed.unsound e) Unsettled.judged = unsound e
       at (Weighed.over e) Unsettled.judged = over e
       at (Weighed.mismatched r e) Unsettled.judged = mismatched r e
       at (Weighed.misfit r e l) Unsettled.judged = misfit r e l
-      at (Weighed.fit r e l) (Unsettled.crowded h) = crowded r e l (why-passed (room-tells out (w .bytes)) h)
+      at (Weighed.fit r e l) (Unsettled.crowded h) = crowded r e l (why-passed (room-tells (w .most) out (w .bytes)) h)
 
   pub why-written : {k d : ℕ} → answerOf w out .answer ≡ W.Bytes k d → Written w (length out) k d
   why-written {k} {d} e =
-      at (why-weighed w) (why-accepted W.Refused bytesTold (fewBytes out) (λ xs. xs) out apart-write (composed w) never e)
+      at (why-weighed w) (why-accepted W.Refused bytesTold (fewBytes (w .most) out) (λ xs. xs) out apart-write (composed w) never e)
     where
       never : (n p : ℕ) → W.Refused n p ≡ W.Bytes k d → ⊥
       never n p e = let z : _≡_ {A = ℕ} 0 1 = cc in omega arith
 
-      refused-never : {n p : ℕ} → Settled bytesTold (fewBytes out) (W.Bytes k d) (refused n p) → Written w (length out) k d
+      refused-never : {n p : ℕ} → Settled bytesTold (fewBytes (w .most) out) (W.Bytes k d) (refused n p) → Written w (length out) k d
       refused-never x = let j = x .judged in let z : _≡_ {A = ℕ} 0 1 = cc in absurd (omega arith)
 
-      at : {o : Out ℕ} → Weighed w o → Settled bytesTold (fewBytes out) (W.Bytes k d) o → Written w (length out) k d
+      at : {o : Out ℕ} → Weighed w o → Settled bytesTold (fewBytes (w .most) out) (W.Bytes k d) o → Written w (length out) k d
       at (Weighed.unsound e) x = refused-never x
       at (Weighed.over e) x = refused-never x
       at (Weighed.mismatched r e) x = refused-never x
@@ -150,16 +152,16 @@ module _ (w : Call) (out : List ℕ) where
       at (Weighed.fit r e l) x =
           let j : _≡_ {A = Out ℕ} (list (w .bytes)) (list (x .list)) = x .judged in
           let y : w .bytes ≡ x .list = cc in
-          let h : length (w .bytes) ≤ min (length out) mostBytes = why-failed (room-tells out (w .bytes)) (rw (← y) at (x .enough)) in
+          let h : length (w .bytes) ≤ min (length out) (w .most) = why-failed (room-tells (w .most) out (w .bytes)) (rw (← y) at (x .enough)) in
           let told : W.Bytes k d ≡ W.Bytes (length (x .list)) (w .next) = x .told in
           let c : k ≡ length (x .list) = cc in
           record { ready = r; matched = e; fit = l; room = omega arith; most = omega arith; count = rw y c; counter = cc }
 
   pub wrote : {k d : ℕ} → Written w (length out) k d → answerOf w out ≡ record { answer = W.Bytes k d; lent = sets out 0 (w .bytes) }
   wrote x =
-      let f = failed (no-room-fits out (w .bytes)) (room-tells out (w .bytes)) (omega (arith, x .room, x .most)) in
+      let f = failed (no-room-fits (w .most) out (w .bytes)) (room-tells (w .most) out (w .bytes)) (omega (arith, x .room, x .most)) in
       rw (weighs w (Weighed.fit (x .ready) (x .matched) (x .fit)), x .count, x .counter)
-      (accepts W.Refused bytesTold (fewBytes out) (λ xs. xs) out (w .bytes) f)
+      (accepts W.Refused bytesTold (fewBytes (w .most) out) (λ xs. xs) out (w .bytes) f)
 
   -- the bytes stand at the front of the output, and those behind are unchanged
   pub wrote-front : {k d : ℕ} → answerOf w out .answer ≡ W.Bytes k d
@@ -176,6 +178,6 @@ module _ (w : Call) (out : List ℕ) where
       record {
         refused = λ n p. (λ e. by n p (why-unwritten e), λ r. ap (λ x. x .answer) (unwritten (to n p r)));
         number = λ n p r. unwritten-number (to n p r);
-        keeps = λ n p. keeps W.Refused bytesTold (fewBytes out) (λ xs. xs) out apart-write (composed w);
+        keeps = λ n p. keeps W.Refused bytesTold (fewBytes (w .most) out) (λ xs. xs) out apart-write (composed w);
         accepted = λ k d. (λ e. takes k d (why-written e), λ r. ap (λ x. x .answer) (wrote (taken k d r)));
       }

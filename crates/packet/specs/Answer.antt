@@ -13,7 +13,6 @@ use Rattle.packet.specs.declared.Reading.{Reading}
 use Rattle.packet.specs.declared.Reading.the-variants as R
 use Rattle.packet.specs.declared.Writing.{Writing}
 use Rattle.packet.specs.declared.Writing.the-variants as W
-use Rattle.packet.specs.Limit.{mostBytes}
 use Rattle.packet.specs.Message.{Msg}
 
 -- neither the setting nor the counter is refused with 1
@@ -52,6 +51,10 @@ writeCounter c (W.Bytes k d) = d
 writeCounter c (W.Refused n p) = c
 
 ---- From what was judged to the answer -----------------------------------------------------------------------------------------
+
+-- What is judged of an input of n bytes, of which the walk gives w: 1 where the setting is not sound, then 2 for too many bytes
+unfoldable pub bounded : (sound : Bool) (most n : ℕ) → Out Msg → Out Msg
+bounded sound most n w = cond (not sound) (refused 1 0) (cond (ltb most n) (refused 2 0) w)
 
 -- the answer, and the lent numbers behind the call
 pub record Answer (E : Type 0) : Type 0 where
@@ -96,13 +99,13 @@ pub record Accepted (Fine : Type 0) (Whole : List Msg → Type 0) (state : List 
   pub count : k ≡ length messages
   pub left : d ≡ state messages
 
--- the output is too small, or would exceed the longest transfer
-abbrev pub fewBytes : List ℕ → List ℕ → Bool
-fewBytes out bs = ltb (min (length out) mostBytes) (length bs)
+-- the output is too small, or would exceed the most bytes
+abbrev pub fewBytes : ℕ → List ℕ → List ℕ → Bool
+fewBytes most out bs = ltb (min (length out) most) (length bs)
 
--- a writer with this next counter
-abbrev pub stored : ℕ → List ℕ → Out ℕ → Answer Writing
-stored next out = settled W.Refused (λ bs. W.Bytes (length bs) next) (fewBytes out) (λ bs. bs) out
+-- a writer of at most so many bytes, with this next counter
+abbrev pub stored : (most next : ℕ) → List ℕ → Out ℕ → Answer Writing
+stored most next out = settled W.Refused (λ bs. W.Bytes (length bs) next) (fewBytes most out) (λ bs. bs) out
 
 -- Before that a writer refuses: 1; 2; 3 at i, the least index of a length that does not fit, where i is below the number n of lengths
 unfoldable pub weighed : (sound held mismatch : Bool) (i n : ℕ) → List ℕ → Out ℕ
@@ -110,6 +113,6 @@ weighed sound held mismatch i n bs =
     cond (not (sound && held)) (refused 1 0) (cond mismatch (refused 2 0) (cond (ltb i n) (refused 3 i) (list bs)))
 
 -- n bytes have no room
-pub data NoRoom (room n : ℕ) : Type 0 where
-  small : room < n → NoRoom room n
-  long : mostBytes < n → NoRoom room n
+pub data NoRoom (most room n : ℕ) : Type 0 where
+  small : room < n → NoRoom most room n
+  long : most < n → NoRoom most room n

@@ -5,5 +5,6 @@ pub mod Limit
 pub mod Message
 pub mod Packets
 pub mod Part
+pub mod Refusal
 pub mod Row
 pub mod Seen

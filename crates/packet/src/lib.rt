@@ -13,7 +13,7 @@ pub struct Counter {
     pub expected: u32,
 }
 
-// A place of an input, and the end of the data packet or frame in which it stands.
+// A place of an input, and the end of the data packet, frame or datagram in which it stands.
 pub struct At {
     pub q: usize,
     pub end: usize,

@@ -6,6 +6,7 @@ use mathlib.Core.Path.{_≡_, refl, ap, _∙_}
 use mathlib.Core.Bool.{true, cond, or-true}
 use lib.Dec.{ltb, eqb}
 use borrow.Author.Tests.{lt-ltb, le-ltb, eq-eqb, eqb-true, eqb-false}
+use Rattle.layout.proofs.MultipleLaws.{pad-less}
 use Rattle.packet.specs.declared.At.{At}
 use Rattle.plan.specs.declared.Plan.{Plan}
 use Rattle.plan.specs.Place.{rests, headerAt, behindAt, streamedAt, nextPacket, onAt}
@@ -91,6 +92,11 @@ module _ (p : Plan) where
 
   pub behind-on : (e : ℕ) → e ≤ behindAt p e
   behind-on e = by-test (eqb (p .layout) 3) (λ g. rw g (omega arith)) (λ g. rw g (omega arith))
+
+  -- an alignment of 1 leaves no tail
+  pub untailed : p .align ≡ 1 → (e : ℕ) → behindAt p e ≡ e
+  untailed h e =
+      by-test (eqb (p .layout) 3) (λ g. rw g) (λ g. let l = pad-less (p .align) e (omega arith) in rw g (omega arith))
 
   -- the place behind a message
   pub on-by : (a : At) (next : ℕ) (P : At → Type 0) → (p .layout ≡ 0 → P (nextPacket p a))

@@ -1,4 +1,4 @@
--- Places, by the layout's case: 0 single, 1 multiple, 2 streaming, 3 frame.
+-- Places, by the layout's case: 0 single, 1 multiple, 2 streaming, 3 frame, 4 datagram.
 use Prim.Native.Nat.{ℕ, _+_, _-_, _%_, _<_, _≤_}
 use mathlib.Core.Path.{_≡_}
 use mathlib.Core.Bool.{Bool, cond, _||_}
@@ -15,7 +15,7 @@ rests p = eqb (p .layout) 1 || eqb (p .layout) 2
 abbrev pub headerAt : Plan → (q : ℕ) → ℕ
 headerAt p q = cond (eqb (p .layout) 3) (q + pad (p .align) (q + 1)) q
 
--- the place behind a packet that ends at e: behind its tail, where it has one
+-- the place behind a packet that ends at e: behind its tail, where it has one. A datagram's alignment is 1, which leaves none
 abbrev pub behindAt : Plan → (e : ℕ) → ℕ
 behindAt p e = cond (eqb (p .layout) 3) e (e + pad (p .align) e)
 
@@ -50,6 +50,6 @@ pub record Beyond (x q r : ℕ) : Type 0 where
 
 pub record Streaming (m end q : ℕ) : Type 0 where
   pub cut : 0 < m
-  pub short : m ≤ 1024
+  pub short : m ≤ 1472
   pub near : q < 1000000000
   pub far : end < 1000000000

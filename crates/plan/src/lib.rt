@@ -1,9 +1,9 @@
 // A plan for every transport: a setting's numbers with those of its header, worked out once; and places, by the layout's case. A layout is a
-// number: 0 single, 1 multiple, 2 streaming, 3 frame. Whoever calls with literals gets a function of its own from the compiler.
+// number: 0 single, 1 multiple, 2 streaming, 3 frame, 4 datagram. Whoever calls with literals gets a function of its own from the compiler.
 ghost use mathlib.Core.Path.{_≡_};
 ghost use Prim.Native.Nat.{_+_, _≤_};
 ghost use Rattle.plan.specs.Place.{Near, Beyond, Streaming, rests as restsOf, headerAt, behindAt, streamedAt, nextPacket, onAt};
-ghost use Rattle.plan.specs.Plan.{planOf, Cased};
+ghost use Rattle.plan.specs.Plan.{planOf, mostOf, Cased};
 use layout::Shape;
 use layout::either;
 use layout::pick;
@@ -11,7 +11,7 @@ use layout::rounded;
 use packet::At;
 
 // What reading and writing need to know. A frame has no longest packet but what its LEN can say, its data packet is the frame ceiling, and only a
-// frame has a node.
+// frame has a node. A datagram's data packet is the longest datagram: it has no other.
 pub struct Plan {
     pub layout: usize,
     pub header: u32,
@@ -84,6 +84,13 @@ pub fn cased(
     }
 }
 
+// The most bytes of an input or an output, where each packet has a header of its own: a datagram's are those of its one data packet.
+pub fn most(p: Plan) -> usize
+    ensures { λ r. ⌜ r ≡ mostOf p ⌝ }
+{
+    pick(p.layout == 4, p.datapacket, 262144)
+}
+
 // Whether data packets may end with a rest.
 pub fn rests(p: Plan) -> bool
     ensures { λ r. ⌜ r ≡ restsOf p ⌝ }
@@ -103,7 +110,7 @@ pub fn header(p: Plan, q: usize) -> usize
 }
 
 // The place behind a packet that ends at e: behind its tail, where it has one. Places are multiples of the alignment, so that rounding the place
-// is rounding the message.
+// is rounding the message; a datagram's alignment is 1.
 pub fn behind(p: Plan, e: usize) -> usize
     requires { ⌜ Near (p .align) e ⌝ }
     ensures { λ r. ⌜ Beyond (behindAt p e) e r ⌝ }

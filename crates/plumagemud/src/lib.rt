@@ -7,15 +7,19 @@ ghost use Rattle.packet.specs.Part.{checkOf};
 ghost use Rattle.description.specs.Reading.{settingsOf};
 ghost use Rattle.flexray.specs.Reading.{readOf as flexrayReadOf};
 ghost use Rattle.flexray.specs.Writing.{writeOf as flexrayWriteOf};
+ghost use Rattle.udp.specs.Reading.{readOf as udpReadOf};
+ghost use Rattle.udp.specs.Writing.{writeOf as udpWriteOf};
 ghost use Rattle.usb.specs.Reading.{readOf as usbReadOf};
 ghost use Rattle.usb.specs.Writing.{writeOf as usbWriteOf};
 ghost use Rattle.plumagemud.specs.Result.{readResult, writeResult, checkResult, noSetting, settingsResult, Reads, Writes};
 use description::Described;
+use flexray::Setting as FlexRay;
 use packet::Checked;
 use packet::Counter;
 use packet::Reading;
 use packet::Writing;
-use usb::Setting;
+use udp::Setting as Udp;
+use usb::Setting as Usb;
 
 // Number 0: value is the row count. Any other number: a refusal, value is its place, and counter is as it was given.
 #[repr(C)]
@@ -45,8 +49,8 @@ pub struct CheckResult {
 pub struct SettingsResult {
     pub number: u32,
     pub place: u32,
-    pub cmdstim: Setting,
-    pub resdaq: Setting,
+    pub cmdstim: Usb,
+    pub resdaq: Usb,
 }
 
 fn told_read(c: Counter, r: Reading) -> ReadResult
@@ -83,10 +87,10 @@ fn told_write(first: u32, r: Writing) -> WriteResult
     }
 }
 
-fn no_setting() -> Setting
+fn no_setting() -> Usb
     ensures { λ r. ⌜ r ≡ noSetting ⌝ }
 {
-    Setting {
+    Usb {
         header: 0,
         packing: 0,
         align: 0,
@@ -120,21 +124,30 @@ pub extern "C" fn xcp_usb_settings(text: &[u8], longest: u32) -> SettingsResult
 }
 
 #[no_mangle]
-pub extern "C" fn xcp_usb_read(
-    s: Setting,
-    transfer: &[u8],
-    c: Counter,
-    rows: &mut [u32],
-) -> ReadResult
-    ensures { λ r. ⌜ Reads (usbReadOf s (now (transfer .entry)) c (now (rows .entry))) c r (now (rows .exit)) ⌝ }
+pub extern "C" fn xcp_usb_read(s: Usb, t: &[u8], c: Counter, rows: &mut [u32]) -> ReadResult
+    ensures { λ r. ⌜ Reads (usbReadOf s (now (t .entry)) c (now (rows .entry))) c r (now (rows .exit)) ⌝ }
 {
-    told_read(c, usb_reader::read(s, transfer, c, rows))
+    told_read(c, usb_reader::read(s, t, c, rows))
+}
+
+#[no_mangle]
+pub extern "C" fn xcp_flexray_read(s: FlexRay, t: &[u8], c: Counter, rows: &mut [u32]) -> ReadResult
+    ensures { λ r. ⌜ Reads (flexrayReadOf s (now (t .entry)) c (now (rows .entry))) c r (now (rows .exit)) ⌝ }
+{
+    told_read(c, flexray_reader::read(s, t, c, rows))
+}
+
+#[no_mangle]
+pub extern "C" fn xcp_udp_read(s: Udp, t: &[u8], c: Counter, rows: &mut [u32]) -> ReadResult
+    ensures { λ r. ⌜ Reads (udpReadOf s (now (t .entry)) c (now (rows .entry))) c r (now (rows .exit)) ⌝ }
+{
+    told_read(c, udp_reader::read(s, t, c, rows))
 }
 
 // Filled up where fillup is not 0.
 #[no_mangle]
 pub extern "C" fn xcp_usb_write(
-    s: Setting,
+    s: Usb,
     packets: &[u8],
     lengths: &[u32],
     first: u32,
@@ -151,20 +164,8 @@ pub extern "C" fn xcp_usb_write(
 }
 
 #[no_mangle]
-pub extern "C" fn xcp_flexray_read(
-    s: flexray::Setting,
-    frame: &[u8],
-    c: Counter,
-    rows: &mut [u32],
-) -> ReadResult
-    ensures { λ r. ⌜ Reads (flexrayReadOf s (now (frame .entry)) c (now (rows .entry))) c r (now (rows .exit)) ⌝ }
-{
-    told_read(c, flexray_reader::read(s, frame, c, rows))
-}
-
-#[no_mangle]
 pub extern "C" fn xcp_flexray_write(
-    s: flexray::Setting,
+    s: FlexRay,
     packets: &[u8],
     lengths: &[u32],
     first: u32,
@@ -175,6 +176,21 @@ pub extern "C" fn xcp_flexray_write(
         first r (now (out .exit)) ⌝ }
 {
     let r = flexray_writer::write(s, packets, lengths, first, fill, out);
+    told_write(first, r)
+}
+
+#[no_mangle]
+pub extern "C" fn xcp_udp_write(
+    s: Udp,
+    packets: &[u8],
+    lengths: &[u32],
+    first: u32,
+    out: &mut [u8],
+) -> WriteResult
+    ensures { λ r. ⌜ Writes (udpWriteOf s (now (packets .entry)) (now (lengths .entry)) first (now (out .entry)))
+        first r (now (out .exit)) ⌝ }
+{
+    let r = udp_writer::write(s, packets, lengths, first, out);
     told_write(first, r)
 }
 

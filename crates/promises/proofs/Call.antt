@@ -1,6 +1,7 @@
--- What is promised of a call, in document 01's words and once for both transports. Usb and Flexray say it of the functions: of any answer that a
+-- What is promised of a call, in document 01's words and once for every transport. Usb, Flexray and Udp say it of the functions: of any answer that a
 -- contract allows, and of the lent table or output as the call then leaves it.
 use Prim.Native.Nat.{ℕ, _+_, _*_, _%_, _^_, _<_, _≤_}
+use native.Mathlib.Omega.{arith}
 use mathlib.Core.Path.{_≡_, refl, sym, _∙_}
 use mathlib.Core.Bool.{true}
 use mathlib.Core.Logic.{_↔_}
@@ -107,6 +108,11 @@ read-promised {S = S} {r = r} {left = left} x g =
     given ms f w l =
         let (front, past) = x .front ms f w l in
         record { front = rw (g .lent) front; past = rw (g .lent) past; shown = x .shown ms w; only = λ ns y. x .unique ns ms y w }
+
+-- what a list that makes up the input is read as, by its length n
+pub read-back : {input table : List ℕ} {S : Rules input table} {r : Reading} {left : List ℕ} → Read S r left → S .Fine → {ms : List Msg}
+    → S .Whole ms → {n : ℕ} → length ms ≡ n → 5 * n ≤ length table → (r ≡ R.Rows n (S .state ms)) × (take (5 * n) left ≡ S .rows ms)
+read-back x f {ms} w e l = let (told, rows) = x .gives ms f w (omega arith) in (rw e at told, rw e at (rows .front))
 
 -- two reads whose answers agree, of which the first leaves the state c, tell the same number, the same place or count, and leave the same table
 pub same-told : {a b : Answer Reading} {c : Counter} → Alike a b c → {r u : Reading} {left past : List ℕ} → Gives a r left → Gives b u past

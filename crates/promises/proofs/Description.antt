@@ -12,11 +12,12 @@ use Rattle.packet.specs.declared.Counter.{Counter}
 use Rattle.packet.specs.declared.Reading.{Reading}
 use Rattle.packet.specs.declared.Reading.the-variants as R
 use Rattle.packet.specs.Counter.{valid}
+use Rattle.packet.specs.Refusal.{ReadRefusal.setting, ReadRefusal.counter, ReadRefusal.long, ReadRefusal.rule, ReadRefusal.room}
 use Rattle.packet.proofs.CounterLaws.{not-valid}
 use Rattle.usb.specs.declared.Setting.{Setting}
 use Rattle.usb.specs.Setting.{W, sound}
 use Rattle.usb.specs.Refusal.{Fine, ReadRefusal}
-use Rattle.usb.proofs.RefusalLaws.{rule-number}
+use Rattle.usb.proofs.ReadLaws.{rule-number}
 use Rattle.words.specs.Words.{same}
 use Rattle.words.specs.Spaced.{Spaced}
 use Rattle.keywords.specs.declared.Side.{Side}
@@ -168,11 +169,11 @@ reads-same x call other a b k l s = call ∙ Laws.reads-same x a b k l s ∙ sym
 ---- Reading with settings that were given --------------------------------------------------------------------------------------
 
 fine-not-1 : {s : Setting} {u : List ℕ} {k : Counter} {m n p : ℕ} → Fine s k → ReadRefusal s u k m n p → 1 < n
-fine-not-1 f (ReadRefusal.setting e) = absurd (true≢false (sym (f .setting) ∙ e))
-fine-not-1 {s} {k = k} f (ReadRefusal.counter i e) = absurd (true≢false (sym (f .counter) ∙ not-valid (W s) k i e))
-fine-not-1 f (ReadRefusal.long g l) = omega arith
-fine-not-1 f (ReadRefusal.rule g l ms y b) = rule-number b .0
-fine-not-1 f (ReadRefusal.room g ms y l) = omega arith
+fine-not-1 f (setting e) = absurd (true≢false (sym (f .setting) ∙ e))
+fine-not-1 {s} {k = k} f (counter i e) = absurd (true≢false (sym (f .counter) ∙ not-valid (W s) k i e))
+fine-not-1 f (long g l) = omega arith
+fine-not-1 f (rule g l b) = rule-number (b .broken) .0
+fine-not-1 f (room g ms y l) = omega arith
 
 -- usb_reader::read does not answer 1 with a setting that is sound, as both settings of a `Pair` are, and with a state that is not refused
 pub sound-read : (s : Setting) (u : List ℕ) (k : Counter) (rows : List ℕ) {v : Reading} {left : List ℕ} → sound s ≡ true → valid (W s) k ≡ true

@@ -27,7 +27,7 @@ use Rattle.flexray.proofs.RefusalLaws.{counter-unread}
 use Rattle.flexray.proofs.WriteLaws as Laws
 pub use Rattle.flexray.proofs.RefusalLaws.{rules, read-exact}
 pub use Rattle.flexray.proofs.WriteLaws.{write-exact}
-use Rattle.promises.proofs.Call.{Answers, answers-promised, Read, read-promised, same-told, Bytes, bytes-promised}
+use Rattle.promises.proofs.Call.{Answers, answers-promised, Read, read-promised, read-back, same-told, Bytes, bytes-promised}
 
 ---- The reader -----------------------------------------------------------------------------------------------------------------
 
@@ -107,5 +107,4 @@ module _ (s : Setting) (bs ns : List ℕ) (c fill : ℕ) (out : List ℕ) where
     round-trip h v l =
         let w = written g in
         let n : length sent ≡ length ns = Laws.placed-length s fill c given ∙ length-packets ns bs in
-        let (told, rows) = reads s (take k left) e rows h .gives sent (record { setting = w .laid .setting; counter = v }) (w .laid) (omega arith) in
-        (rw n at told, rw n at (rows .front))
+        read-back (reads s (take k left) e rows h) (record { setting = w .laid .setting; counter = v }) (w .laid) n l

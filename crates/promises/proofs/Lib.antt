@@ -12,5 +12,7 @@ pub mod Promises
 pub mod ShutOut
 pub mod Starred
 pub mod Tied
+pub mod Udp
+pub mod UdpLimits
 pub mod Usb
 pub mod UsbLimits

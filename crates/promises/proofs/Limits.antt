@@ -1,8 +1,10 @@
--- The bounds of document 01, at the bound and one past it, in two tables under one proof that is computed. UsbLimits and FlexrayLimits have the calls.
+-- The bounds of document 01 and of Ask 3, at the bound and one past it, in two tables under one proof that is computed. UsbLimits, FlexrayLimits and
+-- UdpLimits have the calls.
 use Prim.Native.Nat.{ℕ}
 use mathlib.Core.Path.{_≡_, refl}
 use mathlib.Core.Bool.{false}
 use mathlib.Core.List.{List, [], _∷_, map}
+use Rattle.layout.specs.Field.{size, place, width, Name.LEN, Name.CTR}
 use Rattle.layout.specs.Walk.{walk, go}
 use Rattle.packet.specs.declared.Reading.{Reading}
 use Rattle.packet.specs.declared.Reading.the-variants as Reads
@@ -15,6 +17,7 @@ use Rattle.packet.specs.Counter.{valid, later}
 use Rattle.packet.specs.Row.{table, behind}
 use Rattle.packet.specs.Packets.{packets, mismatched, first}
 use Rattle.packet.specs.Answer.{settled, weighed}
+use Rattle.packet.specs.Answer.{bounded as inBounds}
 use Rattle.usb.specs.declared.Setting as UsbSetting
 use Rattle.usb.specs.Setting as U
 use Rattle.usb.specs.Reading as UsbReading
@@ -23,7 +26,11 @@ use Rattle.flexray.specs.declared.Setting as FlexRaySetting
 use Rattle.flexray.specs.Setting as F
 use Rattle.flexray.specs.Reading as FlexRayReading
 use Rattle.flexray.specs.Writing as FlexRayWriting
-use Rattle.promises.proofs.Starred.{R, R0, expecting, Example, example, usb, flexray}
+use Rattle.udp.specs.declared.Setting as UdpSetting
+use Rattle.udp.specs.Setting as D
+use Rattle.udp.specs.Reading as UdpReading
+use Rattle.udp.specs.Writing as UdpWriting
+use Rattle.promises.proofs.Starred.{R, R0, expecting, Example, example, usb, flexray, udp}
 
 ---- Settings and counters ------------------------------------------------------------------------------------------------------
 
@@ -33,6 +40,9 @@ usb-tries s n = (UsbReading.readOf s [] (expecting n) [] .answer, UsbWriting.wri
 
 abbrev flexray-tries : FlexRaySetting.Setting → ℕ → Reading × Writing
 flexray-tries s n = (FlexRayReading.readOf s [] (expecting n) [] .answer, FlexRayWriting.writeOf s [] [] n 0 [] .answer)
+
+abbrev udp-tries : UdpSetting.Setting → ℕ → Reading × Writing
+udp-tries s n = (UdpReading.readOf s [] (expecting n) [] .answer, UdpWriting.writeOf s [] [] n [] .answer)
 
 -- 1 at 0; no rows and no bytes; or, on FlexRay, what comes behind 1: a frame shorter than H + 1, and an empty list
 abbrev broken : Reading × Writing
@@ -105,6 +115,10 @@ bounds =
     ∷ example (map (flexray-tries (flexray 7 0 32 8 2)) (255 ∷ 256 ∷ [])) (framed ∷ broken ∷ [])
     ∷ example (map (λ s. flexray-tries s 256) (R0 ∷ flexray 7 0 32 1 2 ∷ flexray 7 0 32 2 4 ∷ R ∷ flexray 7 0 32 6 4 ∷ []))
     (framed ∷ framed ∷ framed ∷ framed ∷ framed ∷ [])
+    -- UDP: X 8 to 1,468; direction 0, 1; a counter of two bytes
+    ∷ example (map (λ x. udp-tries (udp x 0) 0) (0 ∷ 7 ∷ 8 ∷ 1468 ∷ 1469 ∷ [])) (broken ∷ broken ∷ sound ∷ sound ∷ broken ∷ [])
+    ∷ example (map (λ d. udp-tries (udp 64 d) 0) (0 ∷ 1 ∷ 2 ∷ [])) (sound ∷ sound ∷ broken ∷ [])
+    ∷ example (map (udp-tries (udp 64 0)) (65535 ∷ 65536 ∷ [])) (taken 65535 ∷ broken ∷ [])
     ∷ []
 
 ---- Numbers, kinds and parts ---------------------------------------------------------------------------------------------------
@@ -115,8 +129,11 @@ input = 0x10 ∷ 0x11 ∷ 0x12 ∷ []
 
 unfoldable pub numbers : List (Example (List ℕ))
 numbers =
-    -- the longest transfer, the most lengths, the highest ceiling
-    example (mostBytes ∷ mostLengths ∷ F.mostCeiling ∷ []) (262144 ∷ 4096 ∷ 254 ∷ [])
+    -- the longest transfer, the most lengths, the highest ceiling, the longest datagram; a datagram's header is USB header 4
+    example (mostBytes ∷ mostLengths ∷ F.mostCeiling ∷ D.mostDatagram ∷ []) (262144 ∷ 4096 ∷ 254 ∷ 1472 ∷ [])
+    ∷ example (size D.fields ∷ width LEN D.fields ∷ place CTR D.fields ∷ width CTR D.fields ∷ [])
+    (size (U.header 4) ∷ width LEN (U.header 4) ∷ place CTR (U.header 4) ∷ width CTR (U.header 4) ∷ [])
+    ∷ example (D.H ∷ D.W ∷ []) (size D.fields ∷ width CTR D.fields ∷ [])
     -- from the slave: FF, FE, FD, FC, and 00 to FB; from the master: C0 to FF, and 00 to BF; by the first byte
     ∷ example (map (λ b. kindOf 0 (b ∷ 0xFF ∷ [])) (0xFF ∷ 0xFE ∷ 0xFD ∷ 0xFC ∷ 0xFB ∷ 0xC0 ∷ 0x00 ∷ []))
     (1 ∷ 2 ∷ 3 ∷ 4 ∷ 5 ∷ 5 ∷ 5 ∷ [])
@@ -132,8 +149,10 @@ numbers =
     ∷ []
 
 pub bounded : (map (λ x. x .gives) bounds ≡ map (λ x. x .is) bounds) × (map (λ x. x .gives) numbers ≡ map (λ x. x .is) numbers)
-unfolding bounds numbers walk go valid later table behind packets mismatched first settled weighed
+unfolding bounds numbers walk go valid later table behind packets mismatched first inBounds settled weighed
     U.headers U.sound UsbReading.lenAt UsbReading.judge UsbReading.seen UsbReading.ahead UsbReading.judged UsbReading.readOf
     UsbWriting.write UsbWriting.misfit UsbWriting.composed UsbWriting.writeOf F.headers F.sound FlexRayReading.judged FlexRayReading.readOf
     FlexRayWriting.frame FlexRayWriting.spans FlexRayWriting.miscounted FlexRayWriting.composed FlexRayWriting.writeOf
+    D.fields D.sound UdpReading.seen UdpReading.ahead UdpReading.judged UdpReading.readOf
+    UdpWriting.write UdpWriting.misfit UdpWriting.composed UdpWriting.writeOf
 bounded = (refl, refl)

@@ -27,6 +27,7 @@ use Rattle.lent.specs.Told.{Tells}
 use Rattle.lent.proofs.ThinCounter.{one-telling}
 use Rattle.lengths.proofs.crowded.Reads as Crowded
 use Rattle.plan.proofs.joined.Reads as Joined
+use Rattle.plan.proofs.most.Reads as Most
 use Rattle.plan.proofs.rests.Reads as Rests
 use Rattle.usb.proofs.shape.Reads as UsbShape
 use Rattle.usb_plan.proofs.plan_for.Reads as UsbPlanFor
@@ -38,10 +39,15 @@ use Rattle.flexray_plan.proofs.further.Reads as FlexRayFurther
 use Rattle.flexray_plan.proofs.plan_for.Reads as FlexRayPlanFor
 use Rattle.flexray_reader.proofs.read.Reads as FlexRayRead
 use Rattle.flexray_writer.proofs.write.Reads as FlexRayWrite
+use Rattle.udp.proofs.plan_of.Reads as UdpPlanOf
+use Rattle.udp.proofs.sound.Reads as UdpSound
+use Rattle.udp_reader.proofs.read.Reads as UdpRead
+use Rattle.udp_writer.proofs.write.Reads as UdpWrite
 use Rattle.lending.specs.declared.Lent.{Lent}
 use Rattle.lending.specs.Lends.{Lends}
 use Rattle.lending.proofs.usb_lent.Reads as LendUsb
 use Rattle.lending.proofs.flexray_lent.Reads as LendFlexRay
+use Rattle.lending.proofs.udp_lent.Reads as LendUdp
 use Rattle.spelling.proofs.ReportLaws.{one-report}
 use Rattle.rowtext.proofs.report.Reads as Report
 use Rattle.settingtext.proofs.argument.Reads as Argument
@@ -52,6 +58,8 @@ use Rattle.plumagemud.proofs.xcp_usb_read.Reads as CUsbRead
 use Rattle.plumagemud.proofs.xcp_usb_write.Reads as CUsbWrite
 use Rattle.plumagemud.proofs.xcp_flexray_read.Reads as CFlexRayRead
 use Rattle.plumagemud.proofs.xcp_flexray_write.Reads as CFlexRayWrite
+use Rattle.plumagemud.proofs.xcp_udp_read.Reads as CUdpRead
+use Rattle.plumagemud.proofs.xcp_udp_write.Reads as CUdpWrite
 use Rattle.plumagemud.proofs.xcp_part_check.Reads as CCheck
 use Rattle.plumagemud.proofs.xcp_kind.Reads as CKind
 
@@ -80,8 +88,10 @@ usb = (λ x a r u e f. one-result, λ x a r u e f. one-result)
 pub flexray : (FlexRayRead.Post allows-one-and λ x e. e .1 .1 .1 .0 .now) × (FlexRayWrite.Post allows-one-and λ x e. e .1 .1 .1 .1 .1 .0 .now)
 flexray = (λ x a r u e f. one-result, λ x a r u e f. one-result)
 
--- with the state lent, by what the clauses of usb_reader's and flexray_reader's read_lent come to (Tied `usb-lent`, `flexray-lent`): what is told, the state
--- and the table
+pub udp : (UdpRead.Post allows-one-and λ x e. e .1 .1 .1 .0 .now) × (UdpWrite.Post allows-one-and λ x e. e .1 .1 .1 .1 .0 .now)
+udp = (λ x a r u e f. one-result, λ x a r u e f. one-result)
+
+-- with the state lent, by what the clauses of each read_lent come to (Tied `usb-lent`, `flexray-lent`, `udp-lent`): what is told, the state and the table
 pub read-lent : {a : Answer Reading} {c : Counter} (r u : Told) (d e : Counter) (left past : List ℕ) → Tells a c r d left → Tells a c u e past
     → (r ≡ u) × (d ≡ e) × (left ≡ past)
 read-lent r u d e left past = one-telling
@@ -94,15 +104,18 @@ one-lent {r = r} {u = u} g h =
     (ap (λ x. lent x (r .state)) told ∙ ap (lent (u .told)) state, rows)
 
 pub lending : (LendUsb.Post allows-one-and λ x e. e .1 .1 .1 .0 .now) × (LendFlexRay.Post allows-one-and λ x e. e .1 .1 .1 .0 .now)
-lending = (λ x a r u e f. one-lent, λ x a r u e f. one-lent)
+    × (LendUdp.Post allows-one-and λ x e. e .1 .1 .1 .0 .now)
+lending = (λ x a r u e f. one-lent, λ x a r u e f. one-lent, λ x a r u e f. one-lent)
 
 ---- C --------------------------------------------------------------------------------------------------------------------------
 
 pub c-read : (CUsbRead.Post allows-one-and λ x e. e .1 .1 .1 .0 .now) × (CFlexRayRead.Post allows-one-and λ x e. e .1 .1 .1 .0 .now)
-c-read = (λ x a r u e f. one-read, λ x a r u e f. one-read)
+    × (CUdpRead.Post allows-one-and λ x e. e .1 .1 .1 .0 .now)
+c-read = (λ x a r u e f. one-read, λ x a r u e f. one-read, λ x a r u e f. one-read)
 
 pub c-write : (CUsbWrite.Post allows-one-and λ x e. e .1 .1 .1 .1 .1 .1 .0 .now) × (CFlexRayWrite.Post allows-one-and λ x e. e .1 .1 .1 .1 .1 .0 .now)
-c-write = (λ x a r u e f. one-written, λ x a r u e f. one-written)
+    × (CUdpWrite.Post allows-one-and λ x e. e .1 .1 .1 .1 .0 .now)
+c-write = (λ x a r u e f. one-written, λ x a r u e f. one-written, λ x a r u e f. one-written)
 
 pub c-others : (CSettings.Post allows-one) × (CCheck.Post allows-one) × (CKind.Post allows-one)
 c-others = (λ x a. same, λ x a. same, λ x a. same)
@@ -123,10 +136,10 @@ argument x a = same
 pub settings : (Settings.Post allows-one) × (UsbShape.Post allows-one) × (FlexRayListed.Post allows-one)
 settings = (λ x a. same, λ x a. same, λ x a. same)
 
--- a plan of numbers, and the layouts that have rests; the plan of a setting, or that it is not sound
-pub plans : (Joined.Post allows-one) × (Rests.Post allows-one) × (UsbPlanFor.Post allows-one) × (FlexRayFurther.Post allows-one)
-    × (FlexRayPlanFor.Post allows-one)
-plans = (λ x a. same, λ x a. same, λ x a. same, λ x a. same, λ x a. same)
+-- a plan of numbers, its most bytes, and the layouts that have rests; the plan of a setting, or that it is not sound
+pub plans : (Joined.Post allows-one) × (Most.Post allows-one) × (Rests.Post allows-one) × (UsbPlanFor.Post allows-one)
+    × (FlexRayFurther.Post allows-one) × (FlexRayPlanFor.Post allows-one) × (UdpSound.Post allows-one) × (UdpPlanOf.Post allows-one)
+plans = (λ x a. same, λ x a. same, λ x a. same, λ x a. same, λ x a. same, λ x a. same, λ x a. same, λ x a. same)
 
 ---- Packets --------------------------------------------------------------------------------------------------------------------
 

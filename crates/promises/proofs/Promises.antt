@@ -1,7 +1,7 @@
--- The promises: open this file first. It goes through the three demands, for USB, for FlexRay, and for the settings from the description file. Each
+-- The promises: open this file first. It goes through the three demands, for USB, FlexRay and UDP, and for the settings from the description file. Each
 -- theorem is about any answer r that the contract of a function allows, and about the lent table or output as the call then leaves it (`left`). Tied shows
 -- that these are the functions' own contracts, as the code states them, and OneResult that each allows one answer only.
--- What is cited here says more: Usb and Flexray for each transport, Call and Numbers for what both share, Description, Fitting
+-- What is cited here says more: Usb, Flexray and Udp for each transport, Call and Numbers for what all share, Description, Fitting
 -- and DescriptionNumbers for the settings, Starred and the tables of limits for the examples, ShutOut for programs shut out.
 use Prim.Native.Nat.{ℕ, _+_, _*_, _%_, _^_, _<_, _≤_}
 use native.Mathlib.Omega.{arith}
@@ -52,6 +52,12 @@ use Rattle.flexray.specs.Refusal as FlexRayRefusal
 use Rattle.flexray.specs.Reading as FlexRayReading
 use Rattle.flexray.specs.Writing as FlexRayWriting
 use Rattle.flexray.specs.Row.{frameTable, frameState}
+use Rattle.udp.specs.declared.Setting as UdpSetting
+use Rattle.udp.specs.Setting as UdpSize
+use Rattle.udp.specs.Layout.{Datagram}
+use Rattle.udp.specs.Refusal as UdpRefusal
+use Rattle.udp.specs.Reading as UdpReading
+use Rattle.udp.specs.Writing as UdpWriting
 use Rattle.plumagemud.specs.declared.CheckResult.{CheckResult}
 use Rattle.plumagemud.specs.declared.ReadResult.{ReadResult}
 use Rattle.plumagemud.specs.declared.SettingsResult.{SettingsResult}
@@ -70,6 +76,8 @@ use Rattle.promises.proofs.Fitting.{Fits, Pair, Reaches, NoBlock, Unsou
 use Rattle.promises.proofs.FlexrayLimits as FlexrayLimits
 use Rattle.promises.proofs.Limits as Limits
 use Rattle.promises.proofs.Starred as Starred
+use Rattle.promises.proofs.Udp as Udp
+use Rattle.promises.proofs.UdpLimits as UdpLimits
 use Rattle.promises.proofs.UsbLimits as UsbLimits
 
 ---- Demand 1: every call is answered, a bad one is refused by number and place, and a refused call changes nothing ----------------
@@ -92,12 +100,41 @@ module _ (s : UsbSetting.Setting) (t : List ℕ) (c : Counter) (rows : List ℕ)
   pub usb-read-unchanged : r ≡ R.Refused n p → (0 < n) × (n ≤ 8) × (left ≡ rows)
   usb-read-unchanged = Usb.reads s t c rows call .answers .refusal n p
 
--- usb_reader::read_lent: d is what the call leaves of the state c
+-- flexray_reader::read
+module _ (s : FlexRaySetting.Setting) (t : List ℕ) (c : Counter) (rows : List ℕ) {r : Reading} {left : List ℕ}
+    (call : Flexray.Reads s t c rows r left) (n p : ℕ) where
+  pub flexray-read-refused : (r ≡ R.Refused n p) ↔ FlexRayRefusal.ReadRefusal s t c (length rows) n p
+  flexray-read-refused = Flexray.reads s t c rows call .answers .refused n p
+
+  pub flexray-read-unchanged : r ≡ R.Refused n p → (0 < n) × (n ≤ 8) × (left ≡ rows)
+  flexray-read-unchanged = Flexray.reads s t c rows call .answers .refusal n p
+
+-- udp_reader::read
+module _ (s : UdpSetting.Setting) (t : List ℕ) (c : Counter) (rows : List ℕ) {r : Reading} {left : List ℕ}
+    (call : Udp.Reads s t c rows r left) (n p : ℕ) where
+  pub udp-read-refused : (r ≡ R.Refused n p) ↔ UdpRefusal.ReadRefusal s t c (length rows) n p
+  udp-read-refused = Udp.reads s t c rows call .answers .refused n p
+
+  pub udp-read-unchanged : r ≡ R.Refused n p → (0 < n) × (n ≤ 8) × (left ≡ rows)
+  udp-read-unchanged = Udp.reads s t c rows call .answers .refusal n p
+
+-- usb_reader::read_lent: d is what the call leaves of the state c. A refusal leaves the table and the state as they were
 module _ (s : UsbSetting.Setting) (t : List ℕ) (c : Counter) (rows : List ℕ) {u : Told} {d : Counter} {left : List ℕ}
     (call : Tells (UsbReading.readOf s t c rows) c u d left) where
-  -- what a refusal leaves of the table and of the state: both as they were
   pub usb-lent-unchanged : 0 < toldNumber u → (toldNumber u ≤ 8) × (left ≡ rows) × (d ≡ c)
   usb-lent-unchanged = read-numbers (Usb.read-exact s t c rows) (lent-numbers call) .numbers .refusal
+
+-- flexray_reader::read_lent
+module _ (s : FlexRaySetting.Setting) (t : List ℕ) (c : Counter) (rows : List ℕ) {u : Told} {d : Counter} {left : List ℕ}
+    (call : Tells (FlexRayReading.readOf s t c rows) c u d left) where
+  pub flexray-lent-unchanged : 0 < toldNumber u → (toldNumber u ≤ 8) × (left ≡ rows) × (d ≡ c)
+  flexray-lent-unchanged = read-numbers (Flexray.read-exact s t c rows) (lent-numbers call) .numbers .refusal
+
+-- udp_reader::read_lent
+module _ (s : UdpSetting.Setting) (t : List ℕ) (c : Counter) (rows : List ℕ) {u : Told} {d : Counter} {left : List ℕ}
+    (call : Tells (UdpReading.readOf s t c rows) c u d left) where
+  pub udp-lent-unchanged : 0 < toldNumber u → (toldNumber u ≤ 8) × (left ≡ rows) × (d ≡ c)
+  udp-lent-unchanged = read-numbers (Udp.read-exact s t c rows) (lent-numbers call) .numbers .refusal
 
 -- usb_writer::write
 module _ (s : UsbSetting.Setting) (bs ns : List ℕ) (c fill : ℕ) (full : Bool) (out : List ℕ) {r : Writing} {left : List ℕ}
@@ -108,22 +145,6 @@ module _ (s : UsbSetting.Setting) (bs ns : List ℕ) (c fill : ℕ) (full : Bool
   pub usb-write-unchanged : r ≡ W.Refused n p → (0 < n) × (n ≤ 8) × (left ≡ out)
   usb-write-unchanged = Usb.writes s bs ns c fill full out call .refusal n p
 
--- flexray_reader::read
-module _ (s : FlexRaySetting.Setting) (t : List ℕ) (c : Counter) (rows : List ℕ) {r : Reading} {left : List ℕ}
-    (call : Flexray.Reads s t c rows r left) (n p : ℕ) where
-  pub flexray-read-refused : (r ≡ R.Refused n p) ↔ FlexRayRefusal.ReadRefusal s t c (length rows) n p
-  flexray-read-refused = Flexray.reads s t c rows call .answers .refused n p
-
-  pub flexray-read-unchanged : r ≡ R.Refused n p → (0 < n) × (n ≤ 8) × (left ≡ rows)
-  flexray-read-unchanged = Flexray.reads s t c rows call .answers .refusal n p
-
--- flexray_reader::read_lent: d is what the call leaves of the state c
-module _ (s : FlexRaySetting.Setting) (t : List ℕ) (c : Counter) (rows : List ℕ) {u : Told} {d : Counter} {left : List ℕ}
-    (call : Tells (FlexRayReading.readOf s t c rows) c u d left) where
-  -- what a refusal leaves of the table and of the state: both as they were
-  pub flexray-lent-unchanged : 0 < toldNumber u → (toldNumber u ≤ 8) × (left ≡ rows) × (d ≡ c)
-  flexray-lent-unchanged = read-numbers (Flexray.read-exact s t c rows) (lent-numbers call) .numbers .refusal
-
 -- flexray_writer::write
 module _ (s : FlexRaySetting.Setting) (bs ns : List ℕ) (c fill : ℕ) (out : List ℕ) {r : Writing} {left : List ℕ}
     (call : Flexray.Writes s bs ns c fill out r left) (n p : ℕ) where
@@ -132,6 +153,15 @@ module _ (s : FlexRaySetting.Setting) (bs ns : List ℕ) (c fill : ℕ) (out : L
 
   pub flexray-write-unchanged : r ≡ W.Refused n p → (0 < n) × (n ≤ 8) × (left ≡ out)
   flexray-write-unchanged = Flexray.writes s bs ns c fill out call .refusal n p
+
+-- udp_writer::write
+module _ (s : UdpSetting.Setting) (bs ns : List ℕ) (c : ℕ) (out : List ℕ) {r : Writing} {left : List ℕ}
+    (call : Udp.Writes s bs ns c out r left) (n p : ℕ) where
+  pub udp-write-refused : (r ≡ W.Refused n p) ↔ UdpRefusal.WriteRefusal s bs ns c (length out) n p
+  udp-write-refused = Udp.writes s bs ns c out call .refused n p
+
+  pub udp-write-unchanged : r ≡ W.Refused n p → (0 < n) × (n ≤ 8) × (left ≡ out)
+  udp-write-unchanged = Udp.writes s bs ns c out call .refusal n p
 
 -- settings::settings, of a text t and the longest packet x
 module _ (t : List ℕ) (x : ℕ) {r : Described} (call : Description.Reads t x r) (p : ℕ) where
@@ -174,7 +204,7 @@ module _ (b : ℕ) (bs : List ℕ) {r : ℕ} where
   pub kind-from-master : r ≡ kindOf 1 (b ∷ bs) → (0xC0 ≤ b → r ≡ 6) × (b ≤ 0xBF → r ≡ 7)
   kind-from-master call = rw call (KindLaws.master-kinds b bs)
 
----- Demand 2: written bytes are those of document 01, gaps are modulo the counter's size, what was written reads back ------------
+---- Demand 2: written bytes are those of document 01 and Ask 3, gaps are modulo the counter's size, what was written reads back --
 
 -- the gap in the row of a message with counter c, where the state s is known, is the one number below the counter's size that leads from the expected
 -- counter to c; from a fresh state it is 0
@@ -221,6 +251,20 @@ module _ (s : FlexRaySetting.Setting) (bs ns : List ℕ) (c fill : ℕ) (out : L
       × (take (5 * length ns) past ≡ frameTable (s .direction) (FlexRaySize.W s) e framed)
   flexray-round-trip e rows = Flexray.round-trip s bs ns c fill out call e rows
 
+module _ (s : UdpSetting.Setting) (bs ns : List ℕ) (c : ℕ) (out : List ℕ) {k d : ℕ} {left : List ℕ}
+    (call : Udp.Writes s bs ns c out (W.Bytes k d) left) where
+  pub udp-written : Udp.Written s bs ns c out k d left
+  udp-written = Udp.written s bs ns c out call
+
+  abbrev packed : List Msg
+  packed = Udp.sent s bs ns c out
+
+  pub udp-round-trip : (e : Counter) (rows : List ℕ) {r : Reading} {past : List ℕ} → Udp.Reads s (take k left) e rows r past
+      → valid UdpSize.W e ≡ true → 5 * length ns ≤ length rows
+      → (r ≡ R.Rows (length ns) (behind UdpSize.W e packed)) × (take (5 * length ns) past ≡ table (s .direction) UdpSize.W e packed)
+      × (map (λ m. m .packet) packed ≡ Udp.given s bs ns c out)
+  udp-round-trip = Udp.round-trip s bs ns c out call
+
 ---- Demand 3: a reader accepts exactly if some list makes up the input by the sender's layout rules, at most one list does, and it gives that list
 
 -- `Given`: the rows of ms stand at the front of the table, those behind are unchanged, each part shows its packet, and no other list makes up the input
@@ -241,6 +285,15 @@ module _ (s : FlexRaySetting.Setting) (t : List ℕ) (c : Counter) (rows : List 
   pub flexray-gives : (ms : List Msg) → FlexRayRefusal.Fine s c → Frame s ms t → 5 * length ms ≤ length rows
       → (r ≡ R.Rows (length ms) (frameState (FlexRaySize.W s) c ms)) × Given (Flexray.rules s t c rows) left ms
   flexray-gives = Flexray.reads s t c rows call .gives
+
+module _ (s : UdpSetting.Setting) (t : List ℕ) (c : Counter) (rows : List ℕ) {r : Reading} {left : List ℕ}
+    (call : Udp.Reads s t c rows r left) where
+  pub udp-accepts : IsRows r ↔ ((ms : List Msg) × UdpRefusal.Fine s c × Datagram s ms t × (5 * length ms ≤ length rows))
+  udp-accepts = Udp.reads s t c rows call .demand
+
+  pub udp-gives : (ms : List Msg) → UdpRefusal.Fine s c → Datagram s ms t → 5 * length ms ≤ length rows
+      → (r ≡ R.Rows (length ms) (behind UdpSize.W c ms)) × Given (Udp.rules s t c rows) left ms
+  udp-gives = Udp.reads s t c rows call .gives
 
 -- The settings reader likewise: a text is accepted exactly if it parts into the words of a block with sound settings (`Fits`), at most one block is what it
 -- says, and the settings given are those of that block
@@ -277,7 +330,7 @@ settings-same = Description.reads-same
 ---- In numbers: what a C caller gets, and one that lends the state -----------------------------------------------------------------
 
 -- `Numbers Refusal Accept lent c n v d left` says of a call with the state or counter c that tells number n, value v and d, and leaves what was lent at `left`:
---     refused     n is m, a number above 0, and v is p, exactly when document 01's table gives m at p
+--     refused     n is m, a number above 0, and v is p, exactly when document 01's table, for UDP with Ask 3, gives m at p
 --     refusal     where n is not 0 it is at most 8, and nothing is changed: `left` is what was lent, and d is c
 --     accepted    n is 0, v is k and d is e exactly when nothing is refused, with k rows or bytes, and with e behind them
 -- `ReadNumbers` has these as `numbers`, and demand 3 as `gives`. Where n is 0 the call is one that answers so many rows or bytes (`xcp-usb-rows`,
@@ -324,6 +377,27 @@ module _ (s : FlexRaySetting.Setting) (bs ns : List ℕ) (c fill : ℕ) (out : L
   pub xcp-flexray-bytes : x .number ≡ 0 → Flexray.Writes s bs ns c fill out (W.Bytes (x .value) (x .counter)) left
   xcp-flexray-bytes = accepted-gives (c-writes call) (Flexray.write-exact s bs ns c fill out)
 
+module _ (s : UdpSetting.Setting) (t : List ℕ) (c : Counter) (rows : List ℕ) where
+  pub udp-lent-numbers : {u : Told} {d : Counter} {left : List ℕ} → Tells (UdpReading.readOf s t c rows) c u d left
+      → ReadNumbers (Udp.rules s t c rows) c (toldNumber u) (toldValue u) d left
+  udp-lent-numbers call = read-numbers (Udp.read-exact s t c rows) (lent-numbers call)
+
+  module _ {x : ReadResult} {left : List ℕ} (call : Reads (UdpReading.readOf s t c rows) c x left) where
+    pub xcp-udp-read : ReadNumbers (Udp.rules s t c rows) c (x .number) (x .value) (x .counter) left
+    xcp-udp-read = read-numbers (Udp.read-exact s t c rows) (c-reads call)
+
+    pub xcp-udp-rows : x .number ≡ 0 → Udp.Reads s t c rows (R.Rows (x .value) (x .counter)) left
+    xcp-udp-rows = accepted-gives (c-reads call) (Udp.read-exact s t c rows .exact)
+
+module _ (s : UdpSetting.Setting) (bs ns : List ℕ) (c : ℕ) (out : List ℕ) {x : WriteResult} {left : List ℕ}
+    (call : Writes (UdpWriting.writeOf s bs ns c out) c x left) where
+  pub xcp-udp-write : Numbers (UdpRefusal.WriteRefusal s bs ns c (length out)) (UdpRefusal.WriteAccept s bs ns c (length out)) out c
+      (x .number) (x .value) (x .counter) left
+  xcp-udp-write = numbers-promised (c-writes call) (Udp.write-exact s bs ns c out)
+
+  pub xcp-udp-bytes : x .number ≡ 0 → Udp.Writes s bs ns c out (W.Bytes (x .value) (x .counter)) left
+  xcp-udp-bytes = accepted-gives (c-writes call) (Udp.write-exact s bs ns c out)
+
 -- xcp_usb_settings: number 0 with place 0 and the settings exactly if they are accepted; a number above 0 and its place exactly if the text is refused so, and
 -- then all twelve numbers of the settings are 0
 module _ (t : List ℕ) (x : ℕ) {y : SettingsResult} (call : DescriptionNumbers.Tells t x y) where
@@ -340,7 +414,7 @@ module _ (t : List ℕ) (p n : ℕ) {x : CheckResult} (call : x ≡ checkResult 
 
 ---- The examples, and that a contract determines what its function answers ---------------------------------------------------------
 
--- the starred examples, and the others: what is given is what document 01 says, in one table
+-- the starred examples, the others, and our own of datagrams: what is given is what document 01 and Ask 3 say, in one table
 pub starred : map (λ x. x .gives) Starred.examples ≡ map (λ x. x .is) Starred.examples
 starred = Starred.starred
 
@@ -357,6 +431,9 @@ usb-limits = UsbLimits.usb-limits
 pub flexray-limits : (map (λ x. x .gives) FlexrayLimits.frames ≡ map (λ x. x .is) FlexrayLimits.frames)
     × (map (λ x. x .gives) FlexrayLimits.calls ≡ map (λ x. x .is) FlexrayLimits.calls)
 flexray-limits = FlexrayLimits.flexray-limits
+
+pub udp-limits : map (λ x. x .gives) UdpLimits.calls ≡ map (λ x. x .is) UdpLimits.calls
+udp-limits = UdpLimits.udp-limits
 
 -- what words say, and texts with their settings or the place where they are refused
 pub description-limits : (map (λ x. x .gives) DescriptionLimits.words ≡ map (λ x. x .is) DescriptionLimits.words)

@@ -4,7 +4,7 @@
 use Prim.Native.Nat.{ℕ, _<_}
 use native.Mathlib.Omega.{arith}
 use mathlib.Core.Path.{_≡_, sym, ap, _∙_}
-use mathlib.Core.Bool.{Bool, true, false}
+use mathlib.Core.Bool.{Bool, true, false, cond}
 use mathlib.Core.List.{List, [], _∷_, _++_, map}
 use lib.ListN.{getD}
 use Rattle.packet.specs.declared.Counter.{Counter}
@@ -24,10 +24,13 @@ use Rattle.description.specs.declared.Described.the-variants as D
 use Rattle.flexray.specs.declared.Setting as FlexRaySetting
 use Rattle.flexray.specs.Reading as FlexRayReading
 use Rattle.flexray.specs.Writing as FlexRayWriting
+use Rattle.udp.specs.declared.Setting as UdpSetting
+use Rattle.udp.specs.Reading as UdpReading
+use Rattle.udp.specs.Writing as UdpWriting
 use Rattle.promises.proofs.Description as Description
 use Rattle.promises.proofs.DescriptionLimits.{block, both, texts, description-limits}
 use Rattle.promises.proofs.Fitting.{no-refusal}
-use Rattle.promises.proofs.Starred.{U1, R, R0, twelve, two, spare, expecting, Result, Result.read, Result.wrote, examples, starred}
+use Rattle.promises.proofs.Starred.{U1, R, R0, udp, twelve, datagram, two, spare, expecting, Result, Result.read, Result.wrote, examples, starred}
 use Rattle.promises.proofs.FlexrayLimits.{frame, frames, flexray-limits}
 
 -- the line of a number in the table of examples
@@ -205,6 +208,69 @@ module _ (f : FlexRaySetting.Setting → List ℕ → List ℕ → ℕ → ℕ �
   -- it does not leave every output as it was
   pub framer-idle : ((bs ns : List ℕ) → framed bs ns .lent ≡ spare 16) → ⊥
   framer-idle h = omega (arith, starts (sym (framer-gives .1) ∙ h (0xFF ∷ []) (1 ∷ [])))
+
+---- The UDP reader and writer --------------------------------------------------------------------------------------------------
+
+-- a program that neither leaves what is lent as it was on every input, nor has one answer for all: enough are an input where it moves something, and two
+-- with different answers
+abbrev pub Lively : {A E : Type 0} → (A → Answer E) → List ℕ → Type 0
+Lively {A} {E} f lent = (((i : A) → f i .lent ≡ lent) → ⊥) × ((x : E) → ((i : A) → f i .answer ≡ x) → ⊥)
+
+lively : {A E : Type 0} (f : A → Answer E) {lent : List ℕ} {i j : A} → (f i .lent ≡ lent → ⊥) → (f i .answer ≡ f j .answer → ⊥)
+    → Lively f lent
+lively f {i = i} {j = j} moves differs = (λ h. moves (h i), λ x h. differs (h i ∙ sym (h j)))
+
+module _ (f : UdpSetting.Setting → List ℕ → Counter → List ℕ → Answer Reading)
+    (meets : (s : UdpSetting.Setting) (t : List ℕ) (c : Counter) (rows : List ℕ)
+    → Gives (UdpReading.readOf s t c rows) (f s t c rows .answer) (f s t c rows .lent)) where
+  -- a datagram, read fresh
+  abbrev unpacking : List ℕ → Answer Reading
+  unpacking t = f (udp 64 0) t fresh (spare 12)
+
+  -- it gives both messages: it does not handle the first and invent the second
+  pub datagram-gives : (unpacking datagram .answer ≡ Reads.Rows 2 (expecting 1))
+      × (unpacking datagram .lent ≡ 4 ∷ 1 ∷ 65535 ∷ 0 ∷ 1 ∷ 9 ∷ 3 ∷ 0 ∷ 0 ∷ 5 ∷ spare 2)
+  unfolding examples
+  datagram-gives = one-result (meets (udp 64 0) datagram fresh (spare 12)) (gives (same-read (line 23)))
+
+  -- it does not refuse everything
+  pub datagram-refuses : ((t : List ℕ) → 0 < readNumber (unpacking t .answer)) → ⊥
+  datagram-refuses h = omega (arith, rw (datagram-gives .0) at (h datagram))
+
+  pub datagram-lively : Lively unpacking (spare 12)
+  unfolding examples
+  datagram-lively =
+      let none = one-result (meets (udp 64 0) [] fresh (spare 12)) (gives (same-read (line 26))) .0 in
+      lively unpacking {i = datagram} {j = []} (λ h. omega (arith, starts (sym (datagram-gives .1) ∙ h)))
+      (λ h. omega (arith, rows-count (sym (datagram-gives .0) ∙ h ∙ none)))
+
+  -- its gaps are not made up: with 65,531 expected, the first message has gap 4
+  pub datagram-gap : getD (f (udp 64 0) datagram (expecting 65531) (spare 12) .lent) 3 0 ≡ 4
+  unfolding examples
+  datagram-gap = ap (λ l. getD l 3 0) (one-result (meets (udp 64 0) datagram (expecting 65531) (spare 12)) (gives (same-read (line 24))) .1)
+
+module _ (f : UdpSetting.Setting → List ℕ → List ℕ → ℕ → List ℕ → Answer Writing)
+    (meets : (s : UdpSetting.Setting) (bs ns : List ℕ) (c : ℕ) (out : List ℕ)
+    → Gives (UdpWriting.writeOf s bs ns c out) (f s bs ns c out .answer) (f s bs ns c out .lent)) where
+  -- two packets from 65,535 on, or none from 7
+  abbrev packing : Bool → Answer Writing
+  packing some = f (udp 64 0) (cond some two []) (cond some (1 ∷ 3 ∷ []) []) (cond some 65535 7) (spare 16)
+
+  -- it writes the datagram
+  pub packer-gives : (packing true .answer ≡ Writes.Bytes 12 1) × (packing true .lent ≡ datagram ++ spare 4)
+  unfolding examples
+  packer-gives = one-result (meets (udp 64 0) two (1 ∷ 3 ∷ []) 65535 (spare 16)) (gives (same-wrote (line 22)))
+
+  -- it does not refuse everything
+  pub packer-refuses : ((some : Bool) → 0 < writeNumber (packing some .answer)) → ⊥
+  packer-refuses h = omega (arith, rw (packer-gives .0) at (h true))
+
+  pub packer-lively : Lively packing (spare 16)
+  unfolding examples
+  packer-lively =
+      let none = one-result (meets (udp 64 0) [] [] 7 (spare 16)) (gives (same-wrote (line 25))) .0 in
+      lively packing {i = true} {j = false} (λ h. omega (arith, starts (sym (packer-gives .1) ∙ h)))
+      (λ h. omega (arith, bytes-count (sym (packer-gives .0) ∙ h ∙ none)))
 
 ---- The settings reader --------------------------------------------------------------------------------------------------------
 

@@ -28,8 +28,14 @@ use Rattle.flexray.specs.Writing.{writeOf as flexrayWriteOf}
 use Rattle.flexray_reader.proofs.read.Reads as FlexRayRead
 use Rattle.flexray_reader.proofs.read_lent as FlexRayLent
 use Rattle.flexray_writer.proofs.write.Reads as FlexRayWrite
+use Rattle.udp.specs.Reading.{readOf as udpReadOf}
+use Rattle.udp.specs.Writing.{writeOf as udpWriteOf}
+use Rattle.udp_reader.proofs.read.Reads as UdpRead
+use Rattle.udp_reader.proofs.read_lent as UdpLent
+use Rattle.udp_writer.proofs.write.Reads as UdpWrite
 use Rattle.lending.proofs.usb_lent.Reads as LendUsb
 use Rattle.lending.proofs.flexray_lent.Reads as LendFlexRay
+use Rattle.lending.proofs.udp_lent.Reads as LendUdp
 use Rattle.spelling.specs.Put.{Reports}
 use Rattle.rowtext.specs.Put.{Prepared}
 use Rattle.rowtext.specs.Text.{programText}
@@ -45,12 +51,15 @@ use Rattle.plumagemud.proofs.xcp_usb_read.Reads as CUsbRead
 use Rattle.plumagemud.proofs.xcp_usb_write.Reads as CUsbWrite
 use Rattle.plumagemud.proofs.xcp_flexray_read.Reads as CFlexRayRead
 use Rattle.plumagemud.proofs.xcp_flexray_write.Reads as CFlexRayWrite
+use Rattle.plumagemud.proofs.xcp_udp_read.Reads as CUdpRead
+use Rattle.plumagemud.proofs.xcp_udp_write.Reads as CUdpWrite
 use Rattle.plumagemud.proofs.xcp_part_check.Reads as CCheck
 use Rattle.plumagemud.proofs.xcp_kind.Reads as CKind
 use Rattle.promises.proofs.Description as Description
 use Rattle.promises.proofs.DescriptionNumbers as DescriptionNumbers
 use Rattle.promises.proofs.Usb as Usb
 use Rattle.promises.proofs.Flexray as Flexray
+use Rattle.promises.proofs.Udp as Udp
 
 ---- USB ------------------------------------------------------------------------------------------------------------------------
 
@@ -78,6 +87,19 @@ pub flexray-write : (x : _) (a : _) (r : _) (e : _) → FlexRayWrite.Asked x a
     (a .1 .1 .1 .1 .1 .0 .now) r (e .1 .1 .1 .1 .1 .0 .now))
 flexray-write x a r e = (tt, λ p. p)
 
+---- UDP ------------------------------------------------------------------------------------------------------------------------
+
+-- udp_reader::read
+pub udp-read : (x : _) (a : _) (r : _) (e : _) → UdpRead.Asked x a
+    × (UdpRead.Post x a r e → Udp.Reads (a .0) (a .1 .0 .now) (a .1 .1 .0) (a .1 .1 .1 .0 .now) r (e .1 .1 .1 .0 .now))
+udp-read x a r e = (tt, λ p. p)
+
+-- udp_writer::write
+pub udp-write : (x : _) (a : _) (r : _) (e : _) → UdpWrite.Asked x a
+    × (UdpWrite.Post x a r e → Udp.Writes (a .0) (a .1 .0 .now) (a .1 .1 .0 .now) (a .1 .1 .1 .0) (a .1 .1 .1 .1 .0 .now)
+    r (e .1 .1 .1 .1 .0 .now))
+udp-write x a r e = (tt, λ p. p)
+
 ---- The description file -------------------------------------------------------------------------------------------------------
 
 -- settings::settings
@@ -103,6 +125,13 @@ module _ {M : Type 1} (𝓤 : URA M) (H : Heap 𝓤) where
       r (e .1 .1 .0 .now) (e .1 .1 .1 .0 .now)))
   flexray-lent A m f x a r e = (refl, refl)
 
+  -- udp_reader::read_lent
+  pub udp-lent : (A : _) (m : _) (f : _) (x : _) (a : _) (r : _) (e : _) → (UdpLent.clauses 𝓤 H A m f x a .requires tt ≡ emp 𝓤)
+      × (UdpLent.clauses 𝓤 H A m f x a .ensures tt r e
+      ≡ fact 𝓤 (Tells (udpReadOf (a .0) (a .1 .0 .now) (a .1 .1 .0 .now) (a .1 .1 .1 .0 .now)) (a .1 .1 .0 .now)
+      r (e .1 .1 .0 .now) (e .1 .1 .1 .0 .now)))
+  udp-lent A m f x a r e = (refl, refl)
+
 -- lending's functions, which lend a state that they hold
 pub lending-usb : (x : _) (a : _) (r : _) (e : _) → LendUsb.Asked x a
     × (LendUsb.Post x a r e → Tells (usbReadOf (a .0) (a .1 .0 .now) (a .1 .1 .0) (a .1 .1 .1 .0 .now)) (a .1 .1 .0)
@@ -113,6 +142,11 @@ pub lending-flexray : (x : _) (a : _) (r : _) (e : _) → LendFlexRay.Asked x a
     × (LendFlexRay.Post x a r e → Tells (flexrayReadOf (a .0) (a .1 .0 .now) (a .1 .1 .0) (a .1 .1 .1 .0 .now)) (a .1 .1 .0)
     (r .told) (r .state) (e .1 .1 .1 .0 .now))
 lending-flexray x a r e = (tt, λ p. p)
+
+pub lending-udp : (x : _) (a : _) (r : _) (e : _) → LendUdp.Asked x a
+    × (LendUdp.Post x a r e → Tells (udpReadOf (a .0) (a .1 .0 .now) (a .1 .1 .0) (a .1 .1 .1 .0 .now)) (a .1 .1 .0)
+    (r .told) (r .state) (e .1 .1 .1 .0 .now))
+lending-udp x a r e = (tt, λ p. p)
 
 ---- Packets --------------------------------------------------------------------------------------------------------------------
 
@@ -159,6 +193,17 @@ pub c-flexray-write : (x : _) (a : _) (r : _) (e : _) → CFlexRayWrite.Asked x 
     × (CFlexRayWrite.Post x a r e → Writes (flexrayWriteOf (a .0) (a .1 .0 .now) (a .1 .1 .0 .now) (a .1 .1 .1 .0) (a .1 .1 .1 .1 .0)
     (a .1 .1 .1 .1 .1 .0 .now)) (a .1 .1 .1 .0) r (e .1 .1 .1 .1 .1 .0 .now))
 c-flexray-write x a r e = (tt, λ p. p)
+
+-- xcp_udp_read
+pub c-udp-read : (x : _) (a : _) (r : _) (e : _) → CUdpRead.Asked x a
+    × (CUdpRead.Post x a r e → Reads (udpReadOf (a .0) (a .1 .0 .now) (a .1 .1 .0) (a .1 .1 .1 .0 .now)) (a .1 .1 .0) r (e .1 .1 .1 .0 .now))
+c-udp-read x a r e = (tt, λ p. p)
+
+-- xcp_udp_write
+pub c-udp-write : (x : _) (a : _) (r : _) (e : _) → CUdpWrite.Asked x a
+    × (CUdpWrite.Post x a r e → Writes (udpWriteOf (a .0) (a .1 .0 .now) (a .1 .1 .0 .now) (a .1 .1 .1 .0) (a .1 .1 .1 .1 .0 .now)) (a .1 .1 .1 .0)
+    r (e .1 .1 .1 .1 .0 .now))
+c-udp-write x a r e = (tt, λ p. p)
 
 -- xcp_part_check
 pub c-check : (x : _) (a : _) (r : _) (e : _) → CCheck.Asked x a

@@ -31,7 +31,7 @@ pub use Rattle.usb.proofs.WriteLaws.{write-exact}
 use Rattle.usb.proofs.WrittenLaws.{placed-packets, placed-counter}
 use Rattle.usb.proofs.FirstLaws.{AtFirst, placed-first, filled-up, empty-none}
 use Rattle.usb.proofs.BoundLaws.{total, stream-bound}
-use Rattle.promises.proofs.Call.{Answers, answers-promised, Read, read-promised, same-told, Bytes, bytes-promised}
+use Rattle.promises.proofs.Call.{Answers, answers-promised, Read, read-promised, read-back, same-told, Bytes, bytes-promised}
 
 ---- The reader -----------------------------------------------------------------------------------------------------------------
 
@@ -114,5 +114,5 @@ module _ (s : Setting) (bs ns : List ℕ) (c fill : ℕ) (full : Bool) (out : Li
     round-trip h v l =
         let w = written g in
         let n : length sent ≡ length ns = sym (length-map sent (λ m. m .packet)) ∙ ap length (w .same) ∙ length-packets ns bs in
-        let (told, rows) = reads s (take k left) e rows h .gives sent (record { setting = w .laid .setting; counter = v }) (w .laid) (omega arith) in
-        (rw n at told, rw n at (rows .front), w .same)
+        let (told, front) = read-back (reads s (take k left) e rows h) (record { setting = w .laid .setting; counter = v }) (w .laid) n l in
+        (told, front, w .same)

@@ -15,7 +15,8 @@ use Rattle.packet.specs.declared.Writing.the-variants as Writes
 use Rattle.packet.specs.Counter.{fresh, valid, gap, next, later, advance}
 use Rattle.packet.specs.Row.{row, table, behind}
 use Rattle.packet.specs.Packets.{packets, mismatched, first}
-use Rattle.packet.specs.Answer.{settled, weighed, stored}
+use Rattle.packet.specs.Answer.{bounded, settled, weighed, stored}
+use Rattle.packet.specs.Limit.{mostBytes}
 use Rattle.usb.specs.declared.Setting as UsbSetting
 use Rattle.usb.specs.Setting as U
 use Rattle.usb.specs.Reading as UsbReading
@@ -178,25 +179,27 @@ calls =
     ∷ []
 
 pub usb-limits : (map (λ x. x .gives) transfers ≡ map (λ x. x .is) transfers) × (map (λ x. x .gives) calls ≡ map (λ x. x .is) calls)
-unfolding transfers calls pad walk go valid gap next later advance row table behind packets mismatched first settled weighed
+unfolding transfers calls pad walk go valid gap next later advance row table behind packets mismatched first bounded settled weighed
     U.headers U.sound UsbReading.lenAt UsbReading.judge UsbReading.seen UsbReading.ahead UsbReading.judged UsbReading.readOf
     UsbWriting.restBytes UsbWriting.permits UsbWriting.skipped UsbWriting.write UsbWriting.misfit UsbWriting.composed UsbWriting.writeOf
 usb-limits = (refl, refl)
 
 -- a single transfer of 262,144 bytes is not too long: one that starts with a zero LEN is refused with 6
 pub most-bytes : (bs : List ℕ) → length bs ≡ 262143 → UsbReading.readOf (U1 0) (0x00 ∷ bs) fresh [] .answer ≡ Reads.Refused 6 0
-unfolding walk go valid settled U.headers U.sound UsbReading.lenAt UsbReading.judge UsbReading.seen UsbReading.ahead UsbReading.judged UsbReading.readOf
+unfolding walk go valid bounded settled U.headers U.sound UsbReading.lenAt UsbReading.judge UsbReading.seen UsbReading.ahead UsbReading.judged
+    UsbReading.readOf
 most-bytes bs e = rw e refl
 
 -- 262,145 bytes are too long, whatever they are; and 1 comes before
 pub more-bytes : (bs : List ℕ) → length bs ≡ 262145 → (UsbReading.readOf (U1 0) bs fresh [] .answer ≡ Reads.Refused 2 0)
     × (UsbReading.readOf (usb 1 0 3 16 64 0) bs fresh [] .answer ≡ Reads.Refused 1 0)
-unfolding valid settled U.headers U.sound UsbReading.judged UsbReading.readOf
+unfolding valid bounded settled U.headers U.sound UsbReading.judged UsbReading.readOf
 more-bytes bs e = (rw e refl, refl)
 
 -- where a writer has room for them, 262,144 bytes that it has composed are written, and 262,145 are not
-pub most-written : (bs out : List ℕ) → 262145 ≤ length out → (length bs ≡ 262144 → stored 0 out (list bs) .answer ≡ Writes.Bytes 262144 0)
-    × (length bs ≡ 262145 → stored 0 out (list bs) .answer ≡ Writes.Refused 4 0)
+pub most-written : (bs out : List ℕ) → 262145 ≤ length out
+    → (length bs ≡ 262144 → stored mostBytes 0 out (list bs) .answer ≡ Writes.Bytes 262144 0)
+    × (length bs ≡ 262145 → stored mostBytes 0 out (list bs) .answer ≡ Writes.Refused 4 0)
 unfolding settled
 most-written bs out room = (
   λ e. rw (le-ltb (min (length out) 262144) (length bs) (omega arith), e) refl,

@@ -13,12 +13,12 @@ use Rattle.packet.specs.declared.Found.{Found}
 use Rattle.packet.specs.declared.Seen.{Seen}
 use Rattle.packet.specs.declared.Seen.the-variants as S
 use Rattle.plan.specs.declared.Plan.{Plan}
-use Rattle.plan.specs.Place.{rests, headerAt, behindAt, nextPacket, onAt, Beyond}
+use Rattle.plan.specs.Place.{rests, headerAt, nextPacket, onAt, Beyond}
 use Rattle.plan.proofs.CaseLaws.{by-test}
 use Rattle.plan.proofs.PlaceLaws.{rests-true}
-use Rattle.reading.specs.Step.{lenAt, head, len, there, nextAt, seen, Says}
+use Rattle.reading.specs.Step.{lenAt, pastAt, head, len, there, nextAt, seen, Says}
 use Rattle.reading.specs.Loops.{Header, Len, Findable, FoundAs, Ahead, Going, Finds}
-use Rattle.reading.proofs.ViewLaws.{View, View.rest, View.empty, View.nothing, View.over, View.past, View.message, view}
+use Rattle.reading.proofs.ViewLaws.{View, View.rest, View.empty, View.cut, View.zeroed, View.nothing, View.over, View.past, View.message, view}
 
 -- where LEN is read, the header lies inside the input; so LEN is what the step sees, and tells whether it sees a rest or a message
 record Turn (p : Plan) (t : List ℕ) (a : At) : Type 0 where
@@ -48,7 +48,9 @@ module _ {p : Plan} {t : List ℕ} {a : At} where
         says = λ y. s;
       }
   turn (empty f z l) e h = absurd h
-  turn (nothing z f g) e h = absurd h
+  turn (cut f l u) e h = absurd h
+  turn (zeroed f z l) e h = absurd h
+  turn (nothing z f g i) e h = absurd h
   turn (over s f l) e h = absurd h
   turn (past s f l) e h = absurd h
 
@@ -73,7 +75,7 @@ module _ {p : Plan} {t : List ℕ} {a : At} where
         pub findable : Findable p t h
         findable = let s = g .standing in let i = here .says (tested ∙ z) in search needs
 
-        pub finds-message : {behind : ℕ} → Beyond (behindAt p (h + p .size + n)) (h + p .size + n) behind → {m : Found}
+        pub finds-message : {behind : ℕ} → Beyond (pastAt p (h + p .size + n)) (h + p .size + n) behind → {m : Found}
             → FoundAs p t h n m → {b : At} → b ≡ onAt p a behind → Finds p t a (S.Message m b)
         finds-message u v i =
             record { is = rw (i, u .is, v .is, n-is, e .is) (rw (tested ∙ z) at (here .is)); counts = v .counter }

@@ -13,8 +13,8 @@ use Rattle.packet.specs.declared.At.{At}
 use Rattle.packet.specs.declared.Found.{Found}
 use Rattle.packet.specs.declared.Seen.{Seen}
 use Rattle.plan.specs.declared.Plan.{Plan}
-use Rattle.plan.specs.Place.{rests, headerAt, behindAt, onAt, Beyond}
-use Rattle.reading.specs.Step.{bareBy, messageBy, len, seen}
+use Rattle.plan.specs.Place.{headerAt, onAt, Beyond}
+use Rattle.reading.specs.Step.{bareAt, pastAt, messageBy, len, seen}
 use Rattle.reading.specs.Loops.{Standing, Header, Len, FoundAs, Headed}
 use Rattle.reading.proofs.ViewLaws.{says}
 
@@ -41,12 +41,11 @@ module _ {p : Plan} {t : List ℕ} {a : At} where
       pub headed : (n ≡ 0 → ⊥) → Headed p t a h rest n
       headed z = let i = len-is in let h = says p t a (λ y. z (len-is ∙ y)) in search needs
 
-      pub seen-bare : n ≡ 0 → {x y z : Bool} → x ≡ rests p → y ≡ (x && ltb (a .end) (length t))
-          → z ≡ (eqb (p .layout) 0 && ltb (a .q) (length t)) → {r : Seen} → r ≡ bareBy y z p a → r ≡ seen p t a
+      pub seen-bare : n ≡ 0 → {r : Seen} → r ≡ bareAt p (length t) a h → r ≡ seen p t a
       unfolding seen
-      seen-bare i f g o b = b ∙ rw (g, f, o, sym len-is ∙ i)
+      seen-bare i b = b ∙ rw (e .is, sym len-is ∙ i)
 
-  pub seen-message : {h rest n : ℕ} → Headed p t a h rest n → {next : ℕ} → Beyond (behindAt p (h + p .size + n)) (h + p .size + n) next
+  pub seen-message : {h rest n : ℕ} → Headed p t a h rest n → {next : ℕ} → Beyond (pastAt p (h + p .size + n)) (h + p .size + n) next
       → {x : Bool} → x ≡ (not (eqb (p .layout) 3) && ltb (p .longest) n) → {limit : ℕ} → limit ≡ cond (ltb (p .layout) 2) rest (length t)
       → {f : Found} → FoundAs p t h n f → {b : At} → b ≡ onAt p a next
       → {r : Seen} → r ≡ messageBy x (ltb limit next) h f b → r ≡ seen p t a

@@ -2,7 +2,7 @@
 use Prim.Native.Nat.{ℕ, _+_, _<_, _≤_, min}
 use native.Mathlib.Omega.{arith}
 use mathlib.Core.Path.{_≡_}
-use mathlib.Core.Bool.{false, not, _&&_}
+use mathlib.Core.Bool.{false, not, _&&_, _||_, or-true}
 use mathlib.Core.List.{List}
 use lib.ListN.{length}
 use lib.Dec.{leb, ltb, eqb}
@@ -17,7 +17,7 @@ use Rattle.plan.specs.declared.Plan.{Plan}
 use Rattle.plan.specs.Place.{rests, nextPacket}
 use Rattle.plan.proofs.CaseLaws.{by-test}
 use Rattle.plan.proofs.PlaceLaws.{rests-true, rests-some, header-on, behind-on, on-by, streamed-on}
-use Rattle.reading.specs.Step.{bareBy, messageBy, head, len, next, limit, there, nextAt, seen, Says}
+use Rattle.reading.specs.Step.{pastAt, bareAt, messageBy, head, len, next, limit, there, nextAt, seen, Says}
 use Rattle.reading.specs.Loops.{Standing}
 use Rattle.reading.specs.Reads.{turns}
 
@@ -25,7 +25,10 @@ module _ (p : Plan) (t : List ℕ) (a : At) where
   pub data View : Seen → Type 0 where
     rest : 0 < p .layout → p .layout < 3 → len p t a ≡ 0 → a .end < length t → View (S.Rest (nextPacket p a))
     empty : p .layout ≡ 0 → len p t a ≡ 0 → a .q < length t → View (S.Refused 6 (a .q))
-    nothing : len p t a ≡ 0 → (0 < p .layout → p .layout < 3 → length t ≤ a .end) → (p .layout ≡ 0 → length t ≤ a .q) → View S.Nothing
+    cut : p .layout ≡ 4 → a .q < length t → length t < head p t a + p .size → View (S.Refused 5 (a .q))
+    zeroed : p .layout ≡ 4 → len p t a ≡ 0 → head p t a + p .size ≤ length t → View (S.Refused 6 (a .q))
+    nothing : len p t a ≡ 0 → (0 < p .layout → p .layout < 3 → length t ≤ a .end) → (p .layout ≡ 0 → length t ≤ a .q)
+        → (p .layout ≡ 4 → length t ≤ a .q) → View S.Nothing
     over : Says p t a → (p .layout ≡ 3 → ⊥) → p .longest < len p t a → View (S.Refused 3 (head p t a))
     past : Says p t a → ((p .layout ≡ 3 → ⊥) → len p t a ≤ p .longest) → limit p t a < next p t a → View (S.Refused 5 (head p t a))
     message : Says p t a → ((p .layout ≡ 3 → ⊥) → len p t a ≤ p .longest) → next p t a ≤ limit p t a
@@ -43,13 +46,20 @@ module _ (p : Plan) (t : List ℕ) (a : At) where
   short n g h = ltb-false (p .longest) n (rw (ne-eqb (p .layout) 3 h) at g)
 
   -- where LEN is 0 or no header fits, and where it says a length
-  bare : len p t a ≡ 0 → View (bareBy (rests p && ltb (a .end) (length t)) (eqb (p .layout) 0 && ltb (a .q) (length t)) p a)
+  bare : len p t a ≡ 0 → View (bareAt p (length t) a (head p t a))
   bare n =
       by-test (rests p && ltb (a .end) (length t))
       (λ r. let (l, u) = rests-some p (and-left _ _ r) in rw r (rest l u n (ltb-true _ _ (and-right (rests p) _ r))))
-      (λ r. by-test (eqb (p .layout) 0 && ltb (a .q) (length t))
-      (λ e. rw (r, e) (empty (eqb-true _ _ (and-left _ _ e)) n (ltb-true _ _ (and-right (eqb (p .layout) 0) _ e))))
-      (λ e. rw (r, e) (nothing n (λ l u. ltb-false _ _ (rw (rests-true p l u) at r)) (λ h. ltb-false _ _ (rw (eq-eqb (p .layout) 0 h) at e)))))
+      (λ r. by-test ((eqb (p .layout) 0 || eqb (p .layout) 4) && ltb (a .q) (length t))
+      (λ e. let l = ltb-true (a .q) (length t) (and-right (eqb (p .layout) 0 || eqb (p .layout) 4) _ e) in
+      by-test (eqb (p .layout) 0)
+      (λ z. let i = eqb-true (p .layout) 0 z in rw (r, e, ne-eqb (p .layout) 4 (λ x. omega arith)) (empty i n l))
+      (λ z. let y = and-left (eqb (p .layout) 0 || eqb (p .layout) 4) _ e in let i = eqb-true (p .layout) 4 (rw z at y) in
+      by-test (ltb (length t) (head p t a + p .size)) (λ s. rw (r, e, eq-eqb (p .layout) 4 i, s) (cut i l (ltb-true _ _ s)))
+      (λ s. rw (r, e, eq-eqb (p .layout) 4 i, s) (zeroed i n (ltb-false _ _ s)))))
+      (λ e. rw (r, e)
+      (nothing n (λ l u. ltb-false _ _ (rw (rests-true p l u) at r)) (λ h. ltb-false _ _ (rw (eq-eqb (p .layout) 0 h) at e))
+      (λ h. ltb-false _ _ (rw (eq-eqb (p .layout) 4 h, or-true) at e)))))
 
   said : Says p t a → View (messageBy (not (eqb (p .layout) 3) && ltb (p .longest) (len p t a)) (ltb (limit p t a) (next p t a))
       (head p t a) (there p t a) (nextAt p t a))
@@ -62,6 +72,10 @@ module _ (p : Plan) (t : List ℕ) (a : At) where
   pub view : View (seen p t a)
   unfolding seen
   view = by-test (eqb (len p t a) 0) (λ z. rw z (bare (eqb-true _ _ z))) (λ z. rw z (said (says (eqb-false _ _ z))))
+
+-- the place behind a packet is not before its end
+past-on : (p : Plan) (e : ℕ) → e ≤ pastAt p e
+past-on p e = by-test (ltb 2 (p .layout)) (λ g. rw g (omega arith)) (λ g. rw g (behind-on p e))
 
 ---- The place behind -----------------------------------------------------------------------------------------------------------
 
@@ -91,7 +105,7 @@ module _ {p : Plan} {t : List ℕ} {a : At} (s : Standing p t a) where
     q-in = omega (arith, header-on p (a .q), s .sized .size-least)
 
     ends : head p t a + p .size + len p t a ≤ next p t a
-    ends = behind-on p _
+    ends = past-on p _
 
     goes-on : a .q < next p t a
     goes-on = omega (arith, ends, header-on p (a .q), s .sized .size-least)
@@ -116,5 +130,7 @@ module _ {p : Plan} {t : List ℕ} {a : At} (s : Standing p t a) where
   -- a refusal's place is in the input
   pub refuses : {n q : ℕ} → View p t a (S.Refused n q) → q ≤ length t
   refuses (empty e z l) = omega arith
+  refuses (cut e l u) = omega arith
+  refuses (zeroed e z l) = omega (arith, header-on p (a .q))
   refuses (over h f l) = omega arith
   refuses (past h f l) = omega arith

@@ -19,8 +19,8 @@ use Rattle.rows.specs.Counters.{Sane}
 use Rattle.reading.specs.Reads.{reads}
 use Rattle.reading.specs.Step.{lenAt, foundAt, head, len, seen, Says}
 
--- A place that a loop comes to, in an input that is not too long. Behind the last message of single packing it may lie past the input; a frame is one
--- data packet
+-- A place that a loop comes to, in an input that is not too long. Behind the last message of single packing it may lie past the input; a frame and a
+-- datagram are one data packet
 pub record Standing (p : Plan) (t : List ℕ) (a : At) : Type 0 where
   pub sized : Sized p
   pub small : length t ≤ mostBytes
@@ -54,6 +54,12 @@ pub record Header (tests : Bool) (p : Plan) (t : List ℕ) (h end : ℕ) : Type 
 pub record Len (tests : Bool) (p : Plan) (t : List ℕ) (h end r : ℕ) : Type 0 where
   pub is : r ≡ lenAt tests p t h end
   pub small : r < 65536
+
+-- a place whose header would stand at h
+pub record Bare (p : Plan) (a : At) (h : ℕ) : Type 0 where
+  pub sized : Sized p
+  pub near : h ≤ 1000000
+  pub end : a .end + p .datapacket ≤ 1000000
 
 -- a header at h that lies inside the input
 pub record Findable (p : Plan) (t : List ℕ) (h : ℕ) : Type 0 where

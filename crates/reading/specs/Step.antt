@@ -21,11 +21,22 @@ lenAt tests p t h end = cond (not tests || leb (h + p .size) end) (numberAt (p .
 abbrev pub foundAt : Plan → List ℕ → (h n : ℕ) → Found
 foundAt p t h n = record { at = h + p .size; len = n; ctr = numberAt (p .ctrwidth) t (h + p .lenwidth) }
 
--- where LEN is 0 or no header fits: a rest with data packets behind it; 6 in single packing; else nothing is left
-abbrev pub bareBy : (rest empty : Bool) → Plan → At → Seen
-bareBy true empty p a = S.Rest (nextPacket p a)
-bareBy false true p a = S.Refused 6 (a .q)
-bareBy false false p a = S.Nothing
+-- the place behind a packet that ends at e: behind its tail, where there are data packets. A frame and a datagram have none
+abbrev pub pastAt : Plan → (e : ℕ) → ℕ
+pastAt p e = cond (ltb 2 (p .layout)) e (behindAt p e)
+
+-- where LEN is 0 or no header fits: a rest with data packets behind it; in single packing and a datagram, where some bytes are left, 6, but 5 where
+-- a datagram's are too few for a header; else nothing is left
+abbrev pub bareBy : (rest some short : Bool) → Plan → At → Seen
+bareBy true some short p a = S.Rest (nextPacket p a)
+bareBy false true true p a = S.Refused 5 (a .q)
+bareBy false true false p a = S.Refused 6 (a .q)
+bareBy false false short p a = S.Nothing
+
+-- .. in n bytes, at a place whose header would stand at h
+abbrev pub bareAt : Plan → (n : ℕ) → At → (h : ℕ) → Seen
+bareAt p n a h =
+    bareBy (rests p && ltb (a .end) n) ((eqb (p .layout) 0 || eqb (p .layout) 4) && ltb (a .q) n) (eqb (p .layout) 4 && ltb n (h + p .size)) p a
 
 -- where a header at h says a length: over X, longer than there is room, or a message
 abbrev pub messageBy : (over past : Bool) → ℕ → Found → At → Seen
@@ -41,7 +52,7 @@ module _ (p : Plan) (t : List ℕ) (a : At) where
   len = lenAt true p t head (min (a .end) (length t))
 
   abbrev pub next : ℕ
-  next = behindAt p (head + p .size + len)
+  next = pastAt p (head + p .size + len)
 
   -- up to where a message may reach: in single and multiple packing the end of its data packet
   abbrev pub limit : ℕ
@@ -56,7 +67,7 @@ module _ (p : Plan) (t : List ℕ) (a : At) where
 
   unfoldable pub seen : Seen
   seen =
-      cond (eqb len 0) (bareBy (rests p && ltb (a .end) (length t)) (eqb (p .layout) 0 && ltb (a .q) (length t)) p a)
+      cond (eqb len 0) (bareAt p (length t) a head)
       (messageBy (not (eqb (p .layout) 3) && ltb (p .longest) len) (ltb limit next) head there nextAt)
 
   -- a header that fits, and says a length

@@ -3,12 +3,13 @@
 ghost use mathlib.Core.Path.{_≡_};
 ghost use Prim.Native.Nat.{_+_, _*_, _≤_};
 ghost use lib.ListN.{length};
+ghost use Rattle.plan.specs.Place.{Near, Beyond};
 ghost use Rattle.plan.specs.Plan.{Cased};
 ghost use Rattle.rows.specs.Count.{JudgedAs};
 ghost use Rattle.rows.specs.Fill.{Filled.filled, filling};
-ghost use Rattle.reading.specs.Loops.{Standing, Counted, Fillable, Header, Len, Findable, FoundAs, Headed, Going, Finds};
+ghost use Rattle.reading.specs.Loops.{Standing, Counted, Fillable, Header, Len, Bare, Findable, FoundAs, Headed, Going, Finds};
 ghost use Rattle.reading.specs.Reads.{reads};
-ghost use Rattle.reading.specs.Step.{bareBy, messageBy, seen};
+ghost use Rattle.reading.specs.Step.{bareBy, bareAt, pastAt, messageBy, seen};
 use layout::both;
 use layout::either;
 use layout::field;
@@ -39,18 +40,47 @@ fn len_at(tests: bool, p: Plan, t: &[u8], h: usize, end: usize) -> usize
     0
 }
 
-// What stands where LEN is 0 or no header fits, by two tests: a rest, a refusal, or nothing.
-fn bare(rest: bool, empty: bool, p: Plan, a: At) -> Seen
+// What stands where LEN is 0 or no header fits, by three tests: a rest, one of two refusals, or nothing.
+fn bare(rest: bool, some: bool, short: bool, p: Plan, a: At) -> Seen
     requires { ⌜ a .end + p .datapacket ≤ 1000000 ⌝ }
-    ensures { λ r. ⌜ r ≡ bareBy rest empty p a ⌝ }
+    ensures { λ r. ⌜ r ≡ bareBy rest some short p a ⌝ }
 {
     if rest {
         return Seen::Rest(next_packet(p, a));
     }
-    if empty {
+    if some {
+        if short {
+            return Seen::Refused(5, a.q);
+        }
         return Seen::Refused(6, a.q);
     }
     Seen::Nothing
+}
+
+// What stands in n bytes at a place whose header, at h, says no length or does not fit.
+fn bare_at(p: Plan, n: usize, a: At, h: usize) -> Seen
+    requires { ⌜ Bare p a h ⌝ }
+    ensures { λ r. ⌜ r ≡ bareAt p n a h ⌝ }
+{
+    bare(
+        both(rests(p), a.end < n),
+        both(either(p.layout == 0, p.layout == 4), a.q < n),
+        both(p.layout == 4, n < h + p.size),
+        p,
+        a,
+    )
+}
+
+// The place behind a packet that ends at e: behind its tail, where there are data packets. A frame and a datagram have none, and `behind` says the same
+// of them; but so the compiler need not round.
+fn past(p: Plan, e: usize) -> usize
+    requires { ⌜ Near (p .align) e ⌝ }
+    ensures { λ r. ⌜ Beyond (pastAt p e) e r ⌝ }
+{
+    if 2 < p.layout {
+        return e;
+    }
+    behind(p, e)
 }
 
 // The message whose header at h says this length.
@@ -84,7 +114,7 @@ fn take(p: Plan, t: &[u8], a: At, h: usize, rest: usize, len: usize) -> Seen
     requires { ⌜ Headed p (now t) a h rest len ⌝ }
     ensures { λ r. ⌜ r ≡ seen p (now (t .entry)) a ⌝ }
 {
-    let next = behind(p, h + p.size + len);
+    let next = past(p, h + p.size + len);
     message(
         both(p.layout != 3, p.longest < len),
         pick(p.layout < 2, rest, t.len()) < next,
@@ -104,12 +134,7 @@ fn see(p: Plan, t: &[u8], a: At) -> Seen
     let rest = least(a.end, n);
     let len = len_at(true, p, t, h, rest);
     if len == 0 {
-        return bare(
-            both(rests(p), a.end < n),
-            both(p.layout == 0, a.q < n),
-            p,
-            a,
-        );
+        return bare_at(p, n, a, h);
     }
     take(p, t, a, h, rest, len)
 }
@@ -125,7 +150,7 @@ fn find(p: Plan, t: &[u8], a: At) -> Seen
     if both(tests, len == 0) {
         return Seen::Rest(next_packet(p, a));
     }
-    let next = behind(p, h + p.size + len);
+    let next = past(p, h + p.size + len);
     Seen::Message(found(p, t, h, len), on(p, a, next))
 }
 

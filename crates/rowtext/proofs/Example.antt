@@ -4,6 +4,7 @@ use mathlib.Core.Path.{_≡_, refl}
 use mathlib.Core.List.{List, [], _∷_, map}
 use Rattle.layout.specs.Multiple.{pad}
 use Rattle.layout.specs.Walk.{walk, go}
+use Rattle.packet.specs.Answer.{bounded}
 use Rattle.packet.specs.Counter.{gap, next, later, advance}
 use Rattle.packet.specs.Row.{row, table}
 use Rattle.usb.specs.Setting as U
@@ -24,6 +25,6 @@ texts =
     ∷ []
 
 pub printed : map programText inputs ≡ texts
-unfolding pad walk go gap next later advance row table U.headers U.sound R.lenAt R.judge R.seen R.ahead R.judged
+unfolding pad walk go bounded gap next later advance row table U.headers U.sound R.lenAt R.judge R.seen R.ahead R.judged
     spelled decimal lines programText
 printed = refl

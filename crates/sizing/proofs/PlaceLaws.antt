@@ -43,7 +43,7 @@ module _ {p : Plan} {a : At} {n : ℕ} (k : Placing p a n) {w : ℕ} (v : Beyond
   module _ {h : ℕ} (x : Beyond (headerAt p (a .q)) (a .q) h) (over : Bool) {from : ℕ} (f : from ≡ cond over (a .end) h) where
     pub place-adds : from + w < 18446744073709551616
     place-adds =
-        let l = picked over {m = a .q + 1024 + 7} f (omega (arith, k .end, z .cut-most)) (omega (arith, x .small)) in
+        let l = picked over {m = a .q + 1472 + 7} f (omega (arith, k .end, z .cut-most)) (omega (arith, x .small)) in
         omega (arith, k .near, k .small, z .size-most, v .small)
 
     module _ {end : ℕ} (e : end ≡ cond over (a .end + p .datapacket) (a .end)) where

@@ -69,7 +69,9 @@ module _ {p : Plan} (k : Formed p) {a : At} (h : p .layout < 3 → a .q ≤ a .e
       let i = aligned-power (k .sized .aligned) in
       let l = pad-less (p .align) (a .q + 1) (i .low) in
       rw e (record { on = omega arith; ahead = λ x. absurd (omega arith); few = λ _. omega (arith, i .high); stream = λ x. absurd (omega arith) })
-  ahead (suc (suc (suc (suc x)))) e = absurd (omega (arith, k .layout-most))
+  ahead (suc (suc (suc (suc zero)))) e =
+      rw e (record { on = omega arith; ahead = λ x. absurd (omega arith); few = λ _. omega arith; stream = λ x. absurd (omega arith) })
+  ahead (suc (suc (suc (suc (suc x))))) e = absurd (omega (arith, k .layout-most))
 
 -- a length that fits from a place on, and a list of them
 pub record Fit (p : Plan) (a : At) (n : ℕ) : Type 0 where
@@ -113,6 +115,16 @@ clear-first {p} {a} {n} {ns} c =
     (λ g. let e : suc (misfitAt p (spot p a n .next) ns) ≡ suc (length ns) = rw g at (c .none) in
     (record { is = g }, record { none = omega arith }))
 
+-- none that does not fit comes behind the last
+misfit-most : (p : Plan) (a : At) (ns : List ℕ) → misfitAt p a ns ≤ length ns
+unfolding misfitAt
+misfit-most p a [] = omega arith
+misfit-most p a (n ∷ ns) =
+    by-test (misfit p a n) (λ g. rw g (omega arith)) (λ g. rw g (omega (arith, misfit-most p (spot p a n .next) ns)))
+
+pub all-clear : {p : Plan} {a : At} {ns : List ℕ} → length ns ≤ misfitAt p a ns → Clear p a ns
+all-clear {p} {a} {ns} h = record { none = omega (arith, misfit-most p a ns) }
+
 -- a message of some bytes stands before the place behind it
 pub spot-past : (p : Plan) (a : At) (n : ℕ) → spot p a n .next .q ≡ spot p a n .from + wholeOf p n
 unfolding spot
@@ -126,3 +138,10 @@ reach-past {p} k {a} h (n ∷ ns) e =
     let (f, g) = clear-first e in
     let s = fit-ahead k f h in
     omega (arith, s .on, spot-past p a n, reach-past k (s .ahead) ns g)
+
+-- and not past the end of a data packet
+pub reach-ahead : {p : Plan} → Formed p → {a : At} → (p .layout < 3 → a .q ≤ a .end) → (ns : List ℕ) → Clear p a ns
+    → p .layout < 3 → reach p a ns .q ≤ reach p a ns .end
+unfolding reach
+reach-ahead k h [] e = h
+reach-ahead k h (n ∷ ns) e = let (f, g) = clear-first e in reach-ahead k (fit-ahead k f h .ahead) ns g

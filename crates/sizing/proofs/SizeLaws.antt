@@ -29,7 +29,7 @@ pub record Sizing (p : Plan) (q : ℕ) (ns : List ℕ) (a : At) (sum i : ℕ) : 
   pub reach : reach p (first q) ns ≡ reach p a (drop i ns)
   pub total : sumOf ns ≡ sum + sumOf (drop i ns)
   pub small : sum ≤ i * 65536
-  pub near : a .q ≤ 4 + i * 66600
+  pub near : a .q ≤ 4 + i * 67100
   pub end : a .end ≤ a .q + p .datapacket
 
 -- .. and the length n at i is neither 0 nor too long

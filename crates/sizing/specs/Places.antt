@@ -1,7 +1,7 @@
--- Where a message comes to stand in what is written, by the layout's case: 0 single, 1 multiple, 2 streaming, 3 frame.
+-- Where a message comes to stand in what is written, by the layout's case: 0 single, 1 multiple, 2 streaming, 3 frame, 4 datagram.
 use Prim.Native.Nat.{ℕ, _+_, _%_, _<_, _≤_}
 use mathlib.Core.Path.{_≡_}
-use mathlib.Core.Bool.{Bool, cond, not, _&&_, _||_}
+use mathlib.Core.Bool.{Bool, cond, _&&_, _||_}
 use lib.Dec.{eqb, ltb}
 use Rattle.packet.specs.declared.At.{At}
 use Rattle.plan.specs.declared.Plan.{Plan}
@@ -13,9 +13,10 @@ use Rattle.sizing.specs.declared.Spot.{Spot}
 abbrev pub wholeOf : Plan → ℕ → ℕ
 wholeOf p n = behindAt p (p .size + n)
 
--- a message of w bytes goes to the next data packet: each single one, one that is not wholly inside, in a stream one whose header is not
+-- a message of w bytes goes to the next data packet: each single one, one that is not wholly inside, in a stream one whose header is not. A frame and
+-- a datagram are one data packet
 abbrev pub crossesAt : Plan → (w : ℕ) → At → Bool
-crossesAt p w a = not (eqb (p .layout) 3) && (eqb (p .layout) 0 || ltb (a .end) (a .q + cond (eqb (p .layout) 1) w (p .size)))
+crossesAt p w a = ltb (p .layout) 3 && (eqb (p .layout) 0 || ltb (a .end) (a .q + cond (eqb (p .layout) 1) w (p .size)))
 
 -- the end of a place's data packet. Only a stream enters another one
 abbrev pub endAt : Plan → (end q : ℕ) → ℕ
@@ -37,7 +38,7 @@ spot p a n = standing p (wholeOf p n) a (crossesAt p (wholeOf p n) a)
 pub record Formed (p : Plan) : Type 0 where
   pub sized : Sized p
   pub longest-most : p .longest < 65536
-  pub layout-most : p .layout ≤ 3
+  pub layout-most : p .layout ≤ 4
   -- at most two bytes of a header are free
   pub free-most : p .size ≤ p .lenwidth + p .ctrwidth + 2
   -- an alignment divides a data packet

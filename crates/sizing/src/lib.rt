@@ -1,5 +1,5 @@
-// Where messages come to stand, and the size of what is to be written, once for every layout: 0 single, 1 multiple, 2 streaming, 3 frame. Whoever calls
-// the loop says its case by literals, and the compiler makes a loop for each.
+// Where messages come to stand, and the size of what is to be written, once for every layout: 0 single, 1 multiple, 2 streaming, 3 frame, 4 datagram.
+// Whoever calls the loop says its case by literals, and the compiler makes a loop for each.
 ghost use mathlib.Core.Path.{_≡_};
 ghost use Rattle.plan.specs.Place.{Streaming};
 ghost use Rattle.plan.specs.Plan.{Cased};
@@ -31,13 +31,13 @@ pub struct Sized {
 }
 
 // Whether a message of so many bytes goes to the next data packet: each single one, one that is not wholly inside, in a stream one whose header is
-// not. The first place has the end 0, so that its message goes to the first data packet.
+// not. The first place has the end 0, so that its message goes to the first data packet. A frame and a datagram are one data packet.
 fn crosses(p: Plan, whole: usize, a: At) -> bool
     requires { ⌜ Reaching p whole a ⌝ }
     ensures { λ r. ⌜ r ≡ crossesAt p whole a ⌝ }
 {
     let reach = a.q + pick(p.layout == 1, whole, p.size);
-    both(p.layout != 3, either(p.layout == 0, a.end < reach))
+    both(p.layout < 3, either(p.layout == 0, a.end < reach))
 }
 
 // The end of the data packet in which a place stands, behind one whose data packet has this end. Only a stream enters another one.

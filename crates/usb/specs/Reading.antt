@@ -1,11 +1,11 @@
 -- Reading a USB transfer (document 01, 'What reading and writing return'): what stands at a place, in numbers; the walk; and the answer for every input.
 use Prim.Native.Nat.{ℕ, _+_, _-_, _%_, min}
-use mathlib.Core.Bool.{Bool, true, false, cond, not, _&&_}
+use mathlib.Core.Bool.{Bool, true, false, cond, _&&_}
 use mathlib.Core.List.{List}
 use lib.ListN.{length}
 use lib.Dec.{ltb, eqb}
 use Rattle.layout.specs.Field.{says, Name.LEN, Name.CTR}
-use Rattle.layout.specs.Walk.{Step, Out, walk, Out.refused}
+use Rattle.layout.specs.Walk.{Step, Out, walk}
 use Rattle.packet.specs.declared.At.{At}
 use Rattle.packet.specs.declared.Counter.{Counter}
 use Rattle.packet.specs.declared.Seen.{Seen}
@@ -15,7 +15,7 @@ use Rattle.packet.specs.Seen.{asStep}
 use Rattle.packet.specs.Counter.{valid}
 use Rattle.packet.specs.Row.{table, behind}
 use Rattle.packet.specs.declared.Reading.{Reading}
-use Rattle.packet.specs.Answer.{Answer, answered}
+use Rattle.packet.specs.Answer.{Answer, bounded, answered}
 use Rattle.packet.specs.Limit.{mostBytes}
 use Rattle.usb.specs.declared.Setting.{Setting}
 use Rattle.usb.specs.declared.Verdict.{Verdict}
@@ -78,9 +78,7 @@ ahead s t q = walk (step s t) (length t) q
 
 -- 1 for the setting and 2 come before
 unfoldable pub judged : Setting → List ℕ → Out Msg
-judged s t =
-    let w = ahead s t 0 in
-    cond (not (sound s)) (refused 1 0) (cond (ltb mostBytes (length t)) (refused 2 0) w)
+judged s t = bounded (sound s) mostBytes (length t) (ahead s t 0)
 
 -- 1 for the state stands beside 1 for the setting, 4 comes last
 unfoldable pub readOf : Setting → List ℕ → Counter → List ℕ → Answer Reading

@@ -1,18 +1,19 @@
 -- When a call is refused, with which number and place (document 01, the table of refusals and the order below it). Nothing here reads,
 -- and of writing there is only the length that 4 speaks of.
-use Prim.Native.Nat.{ℕ, _+_, _*_, _%_, _<_, _≤_, min}
+use Prim.Native.Nat.{ℕ, _+_, _%_, _<_, _≤_, min}
 use mathlib.Core.Path.{_≡_}
-use mathlib.Core.Bool.{Bool, false}
+use mathlib.Core.Bool.{Bool}
 use mathlib.Core.List.{List}
-use lib.ListN.{length, drop, getD}
+use lib.ListN.{length, drop}
 use Rattle.layout.specs.Field.{says, Name.LEN}
+use Rattle.layout.specs.Rule.{Leftmost}
 use Rattle.packet.specs.declared.Counter.{Counter}
-use Rattle.packet.specs.Message.{Msg}
-use Rattle.packet.specs.Counter.{valid, holds, Exceeds, later}
+use Rattle.packet.specs.Counter.{valid}
 use Rattle.packet.specs.Row.{behind}
-use Rattle.packet.specs.Packets.{Matched, Mismatch, packets}
-use Rattle.packet.specs.Answer.{Ready, Accepted, NoRoom}
+use Rattle.packet.specs.Packets.{packets}
+use Rattle.packet.specs.Answer.{Ready, Accepted}
 use Rattle.packet.specs.Limit.{mostBytes}
+use Rattle.packet.specs.Refusal as R
 use Rattle.usb.specs.declared.Setting.{Setting}
 use Rattle.usb.specs.Setting.{fields, H, W, whole, sound}
 use Rattle.usb.specs.Layout.{Laid, Transfer}
@@ -45,14 +46,13 @@ pub data Broken (s : Setting) (q : ℕ) (bs : List ℕ) : ℕ → Type 0 where
 abbrev pub Fine : Setting → Counter → Type 0
 Fine s c = Ready (sound s) (valid (W s) c)
 
--- a transfer t, read with the state c into a table of so many numbers. The leftmost broken rule counts: before it all is laid out
-pub data ReadRefusal (s : Setting) (t : List ℕ) (c : Counter) (numbers : ℕ) : ℕ → ℕ → Type 0 where
-  setting : sound s ≡ false → ReadRefusal s t c numbers 1 0
-  counter : 0 < c .known → Exceeds (W s) (c .expected) → ReadRefusal s t c numbers 1 0
-  long : Fine s c → mostBytes < length t → ReadRefusal s t c numbers 2 0
-  rule : {n p : ℕ} → Fine s c → length t ≤ mostBytes → (ms : List Msg) → Laid s p (drop p t) 0 ms t → Broken s p (drop p t) n
-      → ReadRefusal s t c numbers n p
-  room : Fine s c → (ms : List Msg) → Transfer s ms t → numbers < 5 * length ms → ReadRefusal s t c numbers 4 0
+-- the leftmost rule that a transfer breaks
+abbrev pub Breaks : Setting → List ℕ → (n p : ℕ) → Type 0
+Breaks s t = Leftmost (λ p ms. Laid s p (drop p t) 0 ms t) (λ p n. Broken s p (drop p t) n)
+
+-- a transfer t, read with the state c into a table of so many numbers
+abbrev pub ReadRefusal : Setting → List ℕ → Counter → (numbers n p : ℕ) → Type 0
+ReadRefusal s t c = R.ReadRefusal (sound s) (W s) mostBytes (Breaks s t) (λ ms. Transfer s ms t) t c
 
 -- such a read is accepted with k rows, and leaves the state d
 abbrev pub ReadAccept : Setting → List ℕ → Counter → ℕ → ℕ → Counter → Type 0
@@ -71,26 +71,10 @@ pub data Unfit (s : Setting) (n : ℕ) : Type 0 where
   over : s .longest < n → Unfit s n
   wide : s .packing < 2 → s .datapacket < whole s n → Unfit s n
 
-abbrev pub Willing : Setting → ℕ → Type 0
-Willing s c = Ready (sound s) (holds (W s) c)
-
 -- packets of the lengths ns in the joined bytes bs, first counter c, fill byte, whether to fill up, an output of so many bytes
-pub data WriteRefusal (s : Setting) (bs ns : List ℕ) (c fill : ℕ) (full : Bool) (bytes : ℕ) : ℕ → ℕ → Type 0 where
-  setting : sound s ≡ false → WriteRefusal s bs ns c fill full bytes 1 0
-  counter : Exceeds (W s) c → WriteRefusal s bs ns c fill full bytes 1 0
-  mismatch : Willing s c → Mismatch ns bs → WriteRefusal s bs ns c fill full bytes 2 0
-  -- the least index
-  unfit : {i : ℕ} → Willing s c → Matched ns bs → i < length ns → ((j : ℕ) → j < i → Fit s (getD ns j 0)) → Unfit s (getD ns i 0)
-      → WriteRefusal s bs ns c fill full bytes 3 i
-  room : Willing s c → Matched ns bs → ((j : ℕ) → j < length ns → Fit s (getD ns j 0))
-      → NoRoom bytes (length (write s fill full 0 c (packets ns bs))) → WriteRefusal s bs ns c fill full bytes 4 0
+abbrev pub WriteRefusal : Setting → (bs ns : List ℕ) (c fill : ℕ) (full : Bool) (bytes n p : ℕ) → Type 0
+WriteRefusal s bs ns c fill full = R.WriteRefusal (sound s) (W s) mostBytes (Fit s) (Unfit s) (length (write s fill full 0 c (packets ns bs))) bs ns c
 
--- what it is for such a write to be accepted with k bytes and the next counter d
-pub record WriteAccept (s : Setting) (bs ns : List ℕ) (c fill : ℕ) (full : Bool) (bytes k d : ℕ) : Type 0 where
-  pub willing : Willing s c
-  pub matched : Matched ns bs
-  pub fit : (j : ℕ) → j < length ns → Fit s (getD ns j 0)
-  pub room : length (write s fill full 0 c (packets ns bs)) ≤ bytes
-  pub most : length (write s fill full 0 c (packets ns bs)) ≤ mostBytes
-  pub count : k ≡ length (write s fill full 0 c (packets ns bs))
-  pub next : d ≡ later (W s) (length ns) c
+-- such a write is accepted with k bytes and the next counter d
+abbrev pub WriteAccept : Setting → (bs ns : List ℕ) (c fill : ℕ) (full : Bool) (bytes k d : ℕ) → Type 0
+WriteAccept s bs ns c fill full = R.WriteAccept (sound s) (W s) mostBytes (Fit s) (length (write s fill full 0 c (packets ns bs))) bs ns c

@@ -9,6 +9,7 @@ use Rattle.layout.specs.Multiple.{pad}
 use Rattle.layout.specs.Walk.{Out}
 use Rattle.packet.specs.Message.{Msg}
 use Rattle.packet.specs.Counter.{holds, next, later}
+use Rattle.packet.specs.Limit.{mostBytes}
 use Rattle.packet.specs.Packets.{packets, mismatched, first}
 use Rattle.packet.specs.declared.Writing.{Writing}
 use Rattle.packet.specs.Answer.{Answer, weighed, stored}
@@ -67,4 +68,4 @@ composed s bs ns c fill full =
     weighed (sound s) (holds (W s) c) (mismatched ns bs) (first (misfit s) ns) (length ns) (write s fill full 0 c (packets ns bs))
 
 unfoldable pub writeOf : Setting → List ℕ → List ℕ → ℕ → ℕ → Bool → List ℕ → Answer Writing
-writeOf s bs ns c fill full out = stored (later (W s) (length ns) c) out (composed s bs ns c fill full)
+writeOf s bs ns c fill full out = stored mostBytes (later (W s) (length ns) c) out (composed s bs ns c fill full)

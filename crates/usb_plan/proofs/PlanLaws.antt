@@ -1,21 +1,24 @@
 -- A sound setting's plan: the numbers of its header, by tests over all headers that are computed.
-use Prim.Native.Nat.{_+_, _%_, _^_}
+use Prim.Native.Nat.{_+_, _%_, _^_, _<_, _≤_}
 use native.Mathlib.Omega.{arith}
 use mathlib.Core.Path.{_≡_, refl}
 use mathlib.Core.Bool.{true, false}
 use mathlib.Core.List.{[]}
-use lib.Dec.{leb}
-use borrow.Author.Tests.{leb-true, ltb-true, eqb-true}
+use lib.Dec.{leb, eqb}
+use borrow.Author.Needs.{needs}
+use borrow.Author.Tests.{leb-true, ltb-true, eqb-true, ne-eqb}
 use Rattle.layout.specs.declared.Shape.{Shape}
 use Rattle.layout.specs.Field.{shape, size, place, width, Name.LEN, Name.CTR}
 use Rattle.layout.specs.Multiple.{alignment}
 use Rattle.layout.proofs.MultipleLaws.{alignment-is}
 use Rattle.layout.proofs.TestLaws.{and-left, and-right}
+use Rattle.packet.specs.Limit.{mostBytes}
 use Rattle.usb.specs.declared.Setting.{Setting}
 use Rattle.usb.specs.Setting.{headers, fields, sound}
 use Rattle.usb.proofs.SettingLaws.{good, len-narrow}
 use Rattle.plan.specs.declared.Plan.{Plan}
 use Rattle.plan.specs.declared.Planned.the-variants as P
+use Rattle.plan.specs.Plan.{mostOf, Cased, Messages}
 use Rattle.plan.proofs.PlanLaws.{was-sound, was-unsound, at-most, where-some}
 use Rattle.usb_plan.specs.Plan.{setting, planOf, plannedOf, LenOf, Ready}
 
@@ -53,9 +56,23 @@ ready s e =
 pub len-of : {s : Setting} {k : Shape} → k ≡ shape (fields s) → LenOf s (k .lenwidth)
 len-of {s} e = record { is = rw e; narrow = rw e (len-narrow (s .header)) }
 
+-- messages have tails
+pub tailed : {p : Plan} → Ready p → eqb (p .layout) 3 ≡ false
+tailed {p} k = ne-eqb (p .layout) 3 (λ e. omega (arith, k .layout))
+
 -- the plan of a setting that is sound
 pub planned-ready : {s : Setting} {p : Plan} → P.Sound p ≡ plannedOf s → (setting p ≡ s) × Ready p
 planned-ready {s} e = let (h, i) = was-sound (sound s) (planOf s (shape (fields s))) e in rw i (refl, ready s h)
 
 pub unplanned : (s : Setting) → P.Unsound ≡ plannedOf s → sound s ≡ false
 unplanned s = was-unsound (sound s) (planOf s (shape (fields s)))
+
+-- each packet has a header of its own
+pub messages : {p : Plan} → Ready p → Messages p
+messages {p} k =
+    let d : 2 < p .layout → Cased 4 2 2 4 1 p = λ l. absurd (omega (arith, k .layout)) in
+    search needs
+
+-- the longest transfer
+pub most-is : {p : Plan} → Ready p → mostOf p ≡ mostBytes
+most-is {p} k = rw (ne-eqb (p .layout) 4 (λ e. omega (arith, k .layout)))

@@ -4,6 +4,7 @@ use native.Mathlib.Omega.{arith}
 use native.Mathlib.Nat.{zero-add, zero-mod, add-mod, mod-mod, add-mod-right, mod-mod-of-dvd, dvd-of-mod-eq-zero}
 use mathlib.Core.Path.{_≡_, refl, sym, ap, _∙_}
 use mathlib.Core.Logic.{inl, inr}
+use mathlib.Core.Bool.{false}
 use mathlib.Core.List.{List, [], _∷_}
 use lib.ListN.{length}
 use lib.Dec.{ltb}
@@ -18,7 +19,7 @@ use Rattle.packet.specs.declared.Seen.{Seen}
 use Rattle.packet.specs.declared.Seen.the-variants as S
 use Rattle.packet.specs.Seen.{message, asStep}
 use Rattle.plan.specs.declared.Plan.{Plan}
-use Rattle.plan.specs.Place.{behindAt, streamedAt, nextPacket}
+use Rattle.plan.specs.Place.{streamedAt, nextPacket}
 use Rattle.plan.proofs.CaseLaws.{by-test, by-less}
 use Rattle.plan.proofs.PlaceLaws.{end-starts, in-packet, streamed-is, on-by}
 use Rattle.usb.specs.declared.Verdict.{Verdict}
@@ -29,11 +30,12 @@ use Rattle.usb.proofs.SettingLaws.{good}
 use Rattle.usb.proofs.StepLaws.{Open, Judged, decided}
 use Rattle.usb.proofs.LaidLaws.{forward}
 use Rattle.usb_plan.specs.Plan.{setting, Ready}
+use Rattle.usb_plan.proofs.PlanLaws.{tailed}
 use Rattle.reading.specs.Loops.{Standing}
 use Rattle.reading.specs.Reads.{Tells}
-use Rattle.reading.specs.Step.{head, len, next, limit, there, nextAt, Says}
+use Rattle.reading.specs.Step.{pastAt, head, len, next, limit, there, nextAt, Says}
 use Rattle.reading.specs.Step.{seen as seenBy}
-use Rattle.reading.proofs.ViewLaws.{View, View.rest, View.empty, View.nothing, View.over, View.past, view}
+use Rattle.reading.proofs.ViewLaws.{View, View.rest, View.empty, View.cut, View.zeroed, View.nothing, View.over, View.past, view}
 use Rattle.reading.proofs.ViewLaws.{View.message as fitting}
 
 -- a place stands in or behind the data packet that ends at a cut, and at a multiple of the alignment; in single packing at its start
@@ -55,6 +57,9 @@ module _ {p : Plan} (k : Ready p) where
 
   unframed : p .layout ≡ 3 → ⊥
   unframed e = omega (arith, k .layout)
+
+  packed : ltb 2 (p .layout) ≡ false
+  packed = le-ltb 2 (p .layout) (omega (arith, k .layout))
 
   -- cuts are multiples of eight, and so of every alignment
   eights : {a : ℕ} → Aligned a → (x : ℕ) → x % 8 ≡ 0 → x % a ≡ 0
@@ -122,11 +127,11 @@ module _ {p : Plan} (k : Ready p) where
         (λ l. let z : p .ctrwidth ≡ 0 = omega arith in rw (← k .ctrwidth, z))
 
     -- the place behind a message of n bytes
-    behind-is : (n : ℕ) → behindAt p (head p t a + p .size + n) ≡ a .q + whole (setting p) n
+    behind-is : (n : ℕ) → pastAt p (head p t a + p .size + n) ≡ a .q + whole (setting p) n
     behind-is n =
         let e = pad-shift (p .align) (a .q) (p .size + n) (h .aligned) in
         let i : a .q + p .size + n ≡ a .q + (p .size + n) = omega arith in
-        rw (ne-eqb (p .layout) 3 unframed, i, e, ← k .size) (omega arith)
+        rw (packed, tailed k, i, e, ← k .size) (omega arith)
 
     -- in single packing the place is the start of a data packet
     starts : p .layout ≡ 0 → o ≡ 0
@@ -209,8 +214,8 @@ module _ {p : Plan} (k : Ready p) where
             ahead-by t (a .q) (Judged.message opened (omega (arith, said, y .some)) (omega (arith, said)) (rw said w))
             ∙ rw (said, ctr-is, ← behind-is (len p t a), ← k .size, head-is)
 
-        next-aligned : (e : ℕ) → behindAt p e % p .align ≡ 0
-        next-aligned e = rw (ne-eqb (p .layout) 3 unframed) (pad-whole (p .align) e (aligned-power (k .aligned) .low))
+        next-aligned : (e : ℕ) → pastAt p e % p .align ≡ 0
+        next-aligned e = rw (packed, tailed k) (pad-whole (p .align) e (aligned-power (k .aligned) .low))
 
         goes-on : a .q < next p t a
         goes-on = omega (arith, behind-is (len p t a), k .size, k .size-least)
@@ -240,7 +245,9 @@ module _ {p : Plan} (k : Ready p) where
     told (empty e z l) =
         let u : a .q < a .end = omega (arith, h .single e, k .cut-least) in
         ahead-by t (a .q) (Judged.none (omega arith) e (starts e) (len-is u ∙ z))
-    told (nothing z f g) = tells-nothing z f g
+    told (cut e l u) = absurd (omega (arith, k .layout))
+    told (zeroed e z l) = absurd (omega (arith, k .layout))
+    told (nothing z f g i) = tells-nothing z f g
     told (over y f l) = tells-over y l
     told (past y f l) = tells-past y (f unframed) l
     told (fitting y f l) = tells-message y (f unframed) l

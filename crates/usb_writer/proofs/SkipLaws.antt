@@ -14,10 +14,11 @@ use Rattle.plan.proofs.CaseLaws.{by-test, by-less}
 use Rattle.plan.proofs.PlaceLaws.{end-only, end-starts, streamed-is}
 use Rattle.usb.specs.Writing.{permits, skipped}
 use Rattle.usb_plan.specs.Plan.{setting, Ready}
+use Rattle.usb_plan.proofs.PlanLaws.{tailed, messages}
 use Rattle.sizing.specs.Places.{spot}
 use Rattle.sizing.specs.Sizes.{first}
 use Rattle.sizing.proofs.ReachLaws.{Fit, fit-packet}
-use Rattle.usb_writer.proofs.ShapeLaws.{formed}
+use Rattle.message_writer.proofs.CaseLaws.{formed}
 
 -- a place in a data packet, or at its end
 pub record Cut (p : Plan) (a : At) : Type 0 where
@@ -70,7 +71,7 @@ module _ {p : Plan} (k : Ready p) {a : At} (c : Cut p a) {n : ℕ} (f : Fit p a 
   some = omega (arith, k .cut-least)
 
   fits : p .layout < 2 → w ≤ m
-  fits l = rw (ne-eqb (p .layout) 3 (λ x. omega arith)) at (fit-packet (formed k) f l)
+  fits l = rw (tailed k) at (fit-packet (formed (messages k)) f l)
 
   -- behind a message at the start of the next data packet
   over : p .layout < 2 → Cut p (record { q = a .end + w; end = a .end + m })

@@ -21,15 +21,17 @@ use Rattle.usb.specs.Setting.{whole}
 use Rattle.usb.specs.Writing as U
 use Rattle.usb.specs.Writing.{skipped, write}
 use Rattle.usb_plan.specs.Plan.{setting, Ready}
+use Rattle.usb_plan.proofs.PlanLaws.{tailed, messages}
 use Rattle.sizing.specs.Places.{wholeOf, spot}
-use Rattle.sizing.specs.Sizes.{limitOf, misfit, misfitAt, reach}
+use Rattle.sizing.specs.Sizes.{limitOf, misfit, misfitAt, reach, first}
 use Rattle.sizing.proofs.ReachLaws.{whole-fits, Fit, Clear, clear-first, spot-past}
 use Rattle.writing.specs.Bytes.{restBytes, messageBytes}
 use Rattle.writing.specs.Puts.{bytesFrom}
 use Rattle.writing.proofs.PutLaws.{rest-length}
-use Rattle.usb_writer.specs.Writes.{endOf}
-use Rattle.usb_writer.proofs.ShapeLaws.{formed, head-is}
-use Rattle.usb_writer.proofs.SkipLaws.{Cut, step}
+use Rattle.message_writer.specs.Writes.{endOf, outputOf}
+use Rattle.message_writer.proofs.CaseLaws.{formed}
+use Rattle.usb_writer.proofs.ShapeLaws.{head-is}
+use Rattle.usb_writer.proofs.SkipLaws.{Cut, first-cut, step}
 
 module _ {p : Plan} (k : Ready p) where
   no-frame : eqb (p .layout) 3 ≡ false
@@ -46,13 +48,13 @@ module _ {p : Plan} (k : Ready p) where
       by-less n (p .size) (λ l. rw (g, r, lt-ltb n (p .size) l, lt-leb (p .size) n l)) (λ l. rw (g, r, le-ltb n (p .size) l, le-leb (p .size) n l))))
 
   whole-is : (n : ℕ) → wholeOf p n ≡ whole (setting p) n
-  whole-is n = rw (no-frame, k .size)
+  whole-is n = rw (tailed k, k .size)
 
   message-is : (free c : ℕ) (b : List ℕ) → U.messageBytes (setting p) free c b ≡ messageBytes p free c b
   message-is free c b =
       let n : ℕ = p .size + length b in
       let t : n + pad (p .align) n - n ≡ pad (p .align) n = omega arith in
-      rw (head-is k free c (length b), ← k .size, no-frame, t)
+      rw (head-is k free c (length b), ← k .size, tailed k, t)
 
   ---- Lengths --------------------------------------------------------------------------------------------------------------------
 
@@ -90,7 +92,7 @@ module _ {p : Plan} (k : Ready p) where
 
   ---- All messages ---------------------------------------------------------------------------------------------------------------
 
-  pub reach-cut : {a : At} → Cut p a → (ns : List ℕ) → Clear p a ns → Cut p (reach p a ns)
+  reach-cut : {a : At} → Cut p a → (ns : List ℕ) → Clear p a ns → Cut p (reach p a ns)
   unfolding reach
   reach-cut c [] f = c
   reach-cut c (n ∷ ns) f = let (x, y) = clear-first f in reach-cut (step k c x .next) ns y
@@ -118,7 +120,7 @@ module _ {p : Plan} (k : Ready p) where
         rw (← q, rest-is free (skipped (setting p) (a .q) n), ← j, message-is free c b, ← k .ctrwidth, on)
         (sym (append-assoc r (m ++ o) v ∙ rw (append-assoc m o v)))
 
-    pub write-is : {a : At} → Cut p a → (c : ℕ) (ns bs : List ℕ) → sum ns ≡ length bs → Clear p a ns
+    write-is : {a : At} → Cut p a → (c : ℕ) (ns bs : List ℕ) → sum ns ≡ length bs → Clear p a ns
         → write (setting p) free full (a .q) c (packets ns bs)
         ≡ bytesFrom p free a c (packets ns bs) ++ write (setting p) free full (reach p a ns .q) 0 []
     unfolding packets reach
@@ -134,10 +136,10 @@ module _ {p : Plan} (k : Ready p) where
 
   -- a rest of no bytes
   rest-none : (free : ℕ) {x : ℕ} → x ≡ 0 → [] ≡ restBytes p free x
-  rest-none free {x} e = take-all 0 (restBytes p free x) (omega (arith, rest-length (formed k) free x))
+  rest-none free {x} e = take-all 0 (restBytes p free x) (omega (arith, rest-length (formed (messages k)) free x))
 
   -- what fills up the last data packet
-  pub end-is : (free : ℕ) (full : Bool) {a : At} → Cut p a → write (setting p) free full (a .q) 0 [] ≡ restBytes p free (endOf p a full - a .q)
+  end-is : (free : ℕ) (full : Bool) {a : At} → Cut p a → write (setting p) free full (a .q) 0 [] ≡ restBytes p free (endOf p a full - a .q)
   unfolding write
   end-is free false {a} c = rest-none free (omega arith)
   end-is free true {a} c =
@@ -145,14 +147,25 @@ module _ {p : Plan} (k : Ready p) where
       (λ l. let e = end-only m some (a .q) (a .end) (c .cut) l (c .near) in
       by-less 0 (a .q % m)
       (λ g. let x : a .end - a .q ≡ m - a .q % m = omega arith in
-      rw (lt-ltb 0 (a .q % m) g, lt-ltb (a .end - a .q) m (omega (arith, mod-lt (a .q) some)), x) (rest-is free (m - a .q % m)))
-      (λ g. rw (le-ltb 0 (a .q % m) g, le-ltb (a .end - a .q) m (omega arith)) (rest-none free (omega arith))))
+      rw (lt-ltb 0 (a .q % m) g, stays, lt-ltb (a .end - a .q) m (omega (arith, mod-lt (a .q) some)), x) (rest-is free (m - a .q % m)))
+      (λ g. rw (le-ltb 0 (a .q % m) g, stays, le-ltb (a .end - a .q) m (omega arith)) (rest-none free (omega arith))))
       (λ l. let e : a .q ≡ a .end = omega (arith, c .ahead) in
       let z : a .q % m ≡ 0 = rw e (c .cut) in
-      rw (le-ltb 0 (a .q % m) (omega arith), lt-ltb (a .end - a .q) m (omega arith)) (rest-none free (omega arith)))
+      rw (le-ltb 0 (a .q % m) (omega arith), stays, lt-ltb (a .end - a .q) m (omega arith)) (rest-none free (omega arith)))
     where
+      stays : ltb (p .layout) 3 ≡ true
+      stays = lt-ltb (p .layout) 3 (k .layout)
+
       m : ℕ
       m = p .datapacket
 
       some : 0 < m
       some = omega (arith, k .cut-least)
+
+  -- what is written by the plan is the transfer
+  pub output-is : (bs ns : List ℕ) (c fill : ℕ) (full : Bool) → sum ns ≡ length bs → Clear p (first 0) ns
+      → outputOf p bs ns c fill full ≡ write (setting p) fill full 0 c (packets ns bs)
+  unfolding outputOf
+  output-is bs ns c fill full e f =
+      let d = reach-cut (first-cut k) ns f in
+      sym (write-is fill full (first-cut k) c ns bs e f ∙ rw (end-is fill full d))

@@ -1,5 +1,5 @@
 // Runs the cases of data/cases.bin and writes a line for each. Both files, the cases and the lines in `stdout`, come from a second
-// reading of document 01 (oracle/), whose src/record.rs says how a case and a line are written.
+// reading of document 01 and of Ask 3 (oracle/), whose src/record.rs says how a case and a line are written.
 ghost use Prim.Native.Nat.{_<_, _≤_};
 ghost use lib.ListN.{length};
 use lending::Lent;
@@ -260,6 +260,13 @@ fn flexray_setting(head: &[u8]) -> flexray::Setting {
     }
 }
 
+fn udp_setting(head: &[u8]) -> udp::Setting {
+    udp::Setting {
+        longest: word(head, 8),
+        direction: word(head, 12),
+    }
+}
+
 fn state(head: &[u8]) -> Counter {
     Counter {
         known: word(head, 32),
@@ -278,7 +285,6 @@ fn usb_read_lent(head: &[u8], t: &[u8], rows: &mut [u32]) -> Line {
 }
 
 fn usb_write(head: &[u8], packets: &[u8], lengths: &[u32], out: &mut [u8]) -> Line {
-    repeat(0xB7, out.len(), out);
     let full = word(head, 32) != 0;
     let answer = usb_writer::write(
         usb_setting(head),
@@ -303,7 +309,6 @@ fn flexray_read_lent(head: &[u8], t: &[u8], rows: &mut [u32]) -> Line {
 }
 
 fn flexray_write(head: &[u8], packets: &[u8], lengths: &[u32], out: &mut [u8]) -> Line {
-    repeat(0xB7, out.len(), out);
     let answer = flexray_writer::write(
         flexray_setting(head),
         packets,
@@ -312,6 +317,21 @@ fn flexray_write(head: &[u8], packets: &[u8], lengths: &[u32], out: &mut [u8]) -
         byte(head, 44),
         out,
     );
+    writing(answer, out)
+}
+
+fn udp_read(head: &[u8], t: &[u8], rows: &mut [u32]) -> Line {
+    let answer = udp_reader::read(udp_setting(head), t, state(head), rows);
+    reading(answer, rows)
+}
+
+fn udp_read_lent(head: &[u8], t: &[u8], rows: &mut [u32]) -> Line {
+    let answer = lending::udp_lent(udp_setting(head), t, state(head), rows);
+    telling(answer, rows)
+}
+
+fn udp_write(head: &[u8], packets: &[u8], lengths: &[u32], out: &mut [u8]) -> Line {
+    let answer = udp_writer::write(udp_setting(head), packets, lengths, word(head, 36), out);
     writing(answer, out)
 }
 
@@ -352,6 +372,8 @@ fn read_case(
         5 => kind_case(head, t),
         6 => usb_read_lent(head, t, &mut numbers[0..table]),
         7 => flexray_read_lent(head, t, &mut numbers[0..table]),
+        8 => udp_read(head, t, &mut numbers[0..table]),
+        10 => udp_read_lent(head, t, &mut numbers[0..table]),
         _ => unfit(),
     }
 }
@@ -371,12 +393,14 @@ fn write_case(
     if room > buffer.len() {
         return unfit();
     }
+    repeat(0xB7, room, buffer);
     let bytes = part(packets, 0, end.out);
     let lengths = first_numbers(numbers, k);
-    if function == 1 {
-        return usb_write(head, bytes, lengths, &mut buffer[0..room]);
+    match function {
+        1 => usb_write(head, bytes, lengths, &mut buffer[0..room]),
+        3 => flexray_write(head, bytes, lengths, &mut buffer[0..room]),
+        _ => udp_write(head, bytes, lengths, &mut buffer[0..room]),
     }
-    flexray_write(head, bytes, lengths, &mut buffer[0..room])
 }
 
 // Copies bytes to a place of the text, and answers the place behind them.
@@ -413,7 +437,7 @@ fn one(
     numbers: &mut [u32; 20480],
 ) -> Line {
     let function = word(head, 0);
-    if function == 1 || function == 3 {
+    if function == 1 || function == 3 || function == 9 {
         return write_case(function, head, body, buffer, packets, numbers);
     }
     read_case(function, head, body, buffer, numbers)

@@ -1,5 +1,5 @@
--- The bytes of a rest and of a message, by the layout's case: 0 single, 1 multiple, 2 streaming, 3 frame. LEN stands first in a header, CTR behind
--- it, and what is behind both is free.
+-- The bytes of a rest and of a message, by the layout's case: 0 single, 1 multiple, 2 streaming, 3 frame, 4 datagram. LEN stands first in a header,
+-- CTR behind it, and what is behind both is free.
 use Prim.Native.Nat.{ℕ, _+_, _-_, _<_, _≤_}
 use mathlib.Core.Path.{_≡_}
 use mathlib.Core.Bool.{cond, _&&_}
@@ -24,7 +24,7 @@ headBytes p free c n =
 abbrev pub messageBytes : Plan → (free c : ℕ) → List ℕ → List ℕ
 messageBytes p free c b = headBytes p free c (length b) ++ (b ++ replicate (wholeOf p (length b) - (p .size + length b)) free)
 
--- so many last bytes of a message, which hold its tail: as many as the alignment, or one below 4
+-- so many last bytes of a message, which hold its tail, if it has one: as many as the alignment, or one below 4
 abbrev pub lastOf : Plan → ℕ
 lastOf p = cond (eqb (p .layout) 3) 0 (cond (leb 4 (p .align)) (p .align) 1)
 

@@ -1,5 +1,5 @@
-// Writing, once for every layout: 0 single, 1 multiple, 2 streaming, 3 frame. Whoever calls the loop says its case by literals, and the compiler makes
-// a loop for each.
+// Writing, once for every layout: 0 single, 1 multiple, 2 streaming, 3 frame, 4 datagram. Whoever calls the loop says its case by literals, and the
+// compiler makes a loop for each.
 ghost use mathlib.Core.Path.{_≡_};
 ghost use mathlib.Core.List.{_++_};
 ghost use Prim.Native.Nat.{_-_};
@@ -45,7 +45,8 @@ pub fn put_rest(p: Plan, out: &mut [u8], at: usize, n: usize, free: u8)
     }
 }
 
-// Writes what is passed over before a message: in a stream a few free bytes, in which no header fits, and in a frame those that align a packet.
+// Writes what is passed over before a message: in a stream a few free bytes, in which no header fits, in a frame those that align a packet, and in a
+// datagram none.
 fn put_passed(p: Plan, out: &mut [u8], at: usize, n: usize, free: u8)
     requires { ⌜ Skipping p (now out) at n ⌝ }
     ensures { λ _. ⌜ now (out .exit) ≡ sets (now (out .entry)) at (restBytes p free n) ⌝ }
@@ -84,7 +85,7 @@ fn put_header(p: Plan, out: &mut [u8], n: usize, ctr: u32, free: u8)
     );
 }
 
-// Fills at least as many last bytes of a message that ends there as its tail can have. Header and packet go over them.
+// Fills at least as many last bytes of a message that ends there as its tail can have: none in a frame. Header and packet go over them.
 fn put_tail(p: Plan, out: &mut [u8], end: usize, free: u8)
     requires { ⌜ Tailing p (now out) end ⌝ }
     ensures { λ _. ⌜ now (out .exit) ≡ sets (now (out .entry)) (end - lastOf p) (replicate (lastOf p) free) ⌝ }

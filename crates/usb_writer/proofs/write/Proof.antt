@@ -6,5 +6,5 @@ use Rattle.usb_writer.proofs.write.Tie as tie
 pub write-spec : {M : Type 1} → statement M
 write-spec =
     tie.close
-    (tie.spec (λ c κs. search plans) (λ c. search plans) (λ c κs. search plans) (λ c. search plans) (λ c κs. search plans) (λ c. search plans)
-    (λ c. search plans) (λ c. search plans) (λ c. search plans))
+    (tie.spec (λ c κs. search plans) (λ c. search plans) (λ c κs. search plans) (λ c κs. search plans) (λ c. search plans)
+    (λ c κs. search plans) (λ c. search plans) (λ c. search plans) (λ c. search plans) (λ c. search plans))

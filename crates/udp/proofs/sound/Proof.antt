@@ -1,0 +1,11 @@
+use borrow.Author.Needs.{needs}
+use Rattle.udp.specs.Setting.{sound}
+use Rattle.udp.proofs.sound.Statement.{statement}
+use Rattle.udp.proofs.sound.Tie as tie
+
+returns : tie.Need-returns
+unfolding sound
+returns c = cc
+
+pub sound-spec : {M : Type 1} → statement M
+sound-spec = tie.close (tie.spec (λ c κs. search needs) returns)
