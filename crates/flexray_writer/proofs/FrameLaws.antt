@@ -42,6 +42,7 @@ module _ {p : Plan} (k : Ready p) where
         layout-most = omega arith;
         free-most = omega arith;
         eights = λ l. absurd (omega arith);
+        unaligned = λ e. absurd (omega arith);
       }
 
   -- where a packet starts, and ends

@@ -16,6 +16,7 @@ module _ {p : Plan} (k : Messages p) where
         layout-most = k .layout-most;
         free-most = omega (arith, k .size-twice, k .sized .len-narrow);
         eights = λ _. k .eights;
+        unaligned = λ e. sym (k .datagram (omega arith) .align-is);
       }
 
   module _ {l : ℕ} (e : l ≡ p .layout) where

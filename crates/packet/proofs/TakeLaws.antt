@@ -3,8 +3,8 @@ use Prim.Native.Nat.{ℕ, _+_, _-_, _<_, _≤_}
 use native.Mathlib.Omega.{arith}
 use mathlib.Core.Path.{_≡_}
 use mathlib.Core.List.{List, [], _∷_}
-use lib.ListN.{length, getD, take, drop, drop-of-length-le}
-use lib.Seq.{drop-drop}
+use lib.ListN.{length, getD, take, drop, length-drop, drop-of-length-le}
+use lib.Seq.{take-all, drop-drop}
 use Rattle.layout.proofs.PartLaws.{drop-next, long}
 use Rattle.packet.specs.Packets.{sum, packets}
 
@@ -25,14 +25,18 @@ pub record Taking (bs ns : List ℕ) (from i : ℕ) : Type 0 where
 pub taking : {bs ns : List ℕ} → sum ns ≡ length bs → Taking bs ns 0 0
 taking e = record { few = omega arith; left = omega arith }
 
--- the part of the joined bytes that is handed on
-pub part-is : (bs : List ℕ) (from n : ℕ) → take (from + n - from) (drop from bs) ≡ take n (drop from bs)
-part-is bs from n = let e : from + n - from ≡ n = omega arith in rw e
+-- the joined bytes that are left are handed on
+pub left-is : (bs : List ℕ) (from : ℕ) → take (length bs - from) (drop from bs) ≡ drop from bs
+left-is bs from = take-all (length bs - from) (drop from bs) (omega (arith, length-drop from bs))
 
 module _ {bs ns : List ℕ} {from i : ℕ} (t : Taking bs ns from i) (l : i < length ns) {n : ℕ} (e : n ≡ getD ns i 0) where
   -- the packet at i lies inside the joined bytes
   pub inside : from + n ≤ length bs
   inside = let g = rw (here ns i l e) at (t .left) in omega arith
+
+  -- behind it lie those that are left
+  pub others-long : sum (drop (i + 1) ns) ≡ length (drop from bs) - n
+  others-long = let g = rw (here ns i l e) at (t .left) in rw length-drop (omega arith)
 
   pub packet-long : {b : List ℕ} → b ≡ take n (drop from bs) → length b ≡ n
   packet-long f = rw f (long bs from n inside)

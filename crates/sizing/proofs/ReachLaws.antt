@@ -12,10 +12,11 @@ use Rattle.layout.specs.Multiple.{pad, Aligned}
 use Rattle.layout.proofs.MultipleLaws.{pad-less, aligned-power}
 use Rattle.layout.proofs.TestLaws.{or-left, or-right}
 use Rattle.packet.specs.declared.At.{At}
+use Rattle.packet.specs.Packets.{sum}
 use Rattle.plan.specs.declared.Plan.{Plan}
 use Rattle.plan.specs.Place.{streamedAt}
 use Rattle.plan.proofs.CaseLaws.{by-test, by-less}
-use Rattle.plan.proofs.PlaceLaws.{streamed-past}
+use Rattle.plan.proofs.PlaceLaws.{behind-on, streamed-past}
 use Rattle.sizing.specs.declared.Spot.{Spot}
 use Rattle.sizing.specs.Places.{wholeOf, crossesAt, standing, spot, Formed}
 use Rattle.sizing.specs.Sizes.{limitOf, misfit, misfitAt, reach}
@@ -130,14 +131,15 @@ pub spot-past : (p : Plan) (a : At) (n : ℕ) → spot p a n .next .q ≡ spot p
 unfolding spot
 spot-past p a n = refl
 
--- the messages end behind where they start
-pub reach-past : {p : Plan} → Formed p → {a : At} → (p .layout < 3 → a .q ≤ a .end) → (ns : List ℕ) → Clear p a ns → a .q ≤ reach p a ns .q
+-- the messages end behind where they start, by no less than their packets have
+pub reach-past : {p : Plan} → Formed p → {a : At} → (p .layout < 3 → a .q ≤ a .end) → (ns : List ℕ) → Clear p a ns
+    → a .q + sum ns ≤ reach p a ns .q
 unfolding reach
 reach-past k h [] e = omega arith
 reach-past {p} k {a} h (n ∷ ns) e =
     let (f, g) = clear-first e in
     let s = fit-ahead k f h in
-    omega (arith, s .on, spot-past p a n, reach-past k (s .ahead) ns g)
+    omega (arith, s .on, spot-past p a n, behind-on p (p .size + n), reach-past k (s .ahead) ns g)
 
 -- and not past the end of a data packet
 pub reach-ahead : {p : Plan} → Formed p → {a : At} → (p .layout < 3 → a .q ≤ a .end) → (ns : List ℕ) → Clear p a ns

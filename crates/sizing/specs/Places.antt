@@ -43,6 +43,8 @@ pub record Formed (p : Plan) : Type 0 where
   pub free-most : p .size ≤ p .lenwidth + p .ctrwidth + 2
   -- an alignment divides a data packet
   pub eights : p .layout < 2 → p .datapacket % 8 ≡ 0
+  -- a datagram aligns nothing
+  pub unaligned : p .layout ≡ 4 → p .align ≡ 1
 
 -- a message of w bytes, from a place on that is far below what a number of the machine can be
 pub record Reaching (p : Plan) (w : ℕ) (a : At) : Type 0 where

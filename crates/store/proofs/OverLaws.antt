@@ -19,6 +19,10 @@ same-place (w ∷ ws) (v ∷ vs) out at =
     ap (λ xs. sets xs (suc at) ws) (set-before vs (set out at v) at (suc at) w (omega arith) ∙ rw (set-set out at v w))
     ∙ same-place ws vs (set out at w) (suc at)
 
+-- .. of which nothing is left, if it is no longer
+pub written-over : (ws vs out : List ℕ) (at : ℕ) → length vs ≤ length ws → sets (sets out at vs) at ws ≡ sets out at ws
+written-over ws vs out at h = same-place ws vs out at ∙ rw (drop-of-length-le vs {i = length ws} h, append-nil)
+
 -- .. and vs starts j bytes further on
 pub front-over : (ws vs out : List ℕ) (at j : ℕ) → j ≤ length ws
     → sets (sets out (at + j) vs) at ws ≡ sets out at (ws ++ drop (length ws - j) vs)
@@ -33,8 +37,7 @@ front-over (w ∷ ws) vs out at (suc j) h =
 -- the first k bytes are put, and then those from j on
 over : (bs out : List ℕ) (at j k : ℕ) → j ≤ k → sets (sets out at (take k bs)) (at + j) (drop j bs) ≡ sets out at bs
 over bs out at zero k h =
-    let d : drop (length bs) (take k bs) ≡ [] = drop-of-length-le (take k bs) {i = length bs} (omega (arith, length-take k bs)) in
-    rw add-zero (same-place bs (take k bs) out at ∙ rw (d, append-nil))
+    rw add-zero (written-over bs (take k bs) out at (omega (arith, length-take k bs)))
 over bs out at (suc j) zero h = absurd (omega arith)
 over [] out at (suc j) (suc k) h = refl
 over (b ∷ bs) out at (suc j) (suc k) h = rw (add-suc at j, ← suc-add at j) (over bs (set out at b) (suc at) j k (omega arith))

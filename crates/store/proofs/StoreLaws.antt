@@ -4,12 +4,14 @@ use native.Mathlib.Omega.{arith}
 use native.Mathlib.Nat.{add-zero, zero-add, add-suc, suc-add}
 use native.Mathlib.Numerals.{add-one}
 use mathlib.Core.Path.{_≡_, refl, sym, ap, _∙_}
+use mathlib.Core.Bool.{Bool, true, false, cond, _&&_}
 use mathlib.Core.List.{List, [], _∷_, _++_, append-nil, append-assoc}
-use lib.ListN.{length, getD, set, take, drop, length-set, length-drop, take-append-drop, drop-of-length-le}
-use lib.Seq.{sets, sets-eq, take-all, take-at, take-suc, length-take-le, getD-take, getD-drop, set-set, set-comm, take-set-le, drop-set-add}
+use lib.ListN.{length, getD, set, take, drop, length-set, length-take, length-drop, take-append-drop, drop-of-length-le}
+use lib.Dec.{leb}
+use lib.Seq.{sets, sets-eq, take-all, take-at, take-take, take-suc, length-take-le, getD-take, getD-drop, set-set, set-comm, take-set-le, drop-set-add}
 use Rattle.layout.proofs.PartLaws.{long}
 use Rattle.layout.proofs.RunLaws.{sets-append}
-use Rattle.store.specs.Store.{block}
+use Rattle.store.specs.Store.{block, along}
 
 ---- The loops ------------------------------------------------------------------------------------------------------------------
 
@@ -47,6 +49,20 @@ pub put-through : (bs mid old : List ℕ) (at i n : ℕ) → i + n ≤ length bs
 put-through bs mid old at i n l h x y =
     let c : length (block bs i n) ≡ n = long bs i n l in
     y ∙ rw (x, sets-eq (block bs i n) mid 0 (omega arith), take-at (block bs i n) _ n c)
+
+---- What goes with a packet ----------------------------------------------------------------------------------------------------
+
+-- a block of 64 is its first n bytes and the others
+pub block-split : (part : List ℕ) (n : ℕ) → n ≤ 64 → take 64 part ≡ take n part ++ drop n (take 64 part)
+block-split part n h = sym (rw (take-take n 64 part h) at (take-append-drop n (take 64 part)))
+
+-- nothing goes that is not in the part
+pub along-length : (more : Bool) (n : ℕ) (part : List ℕ) → n ≤ length part → length (along more n part) ≤ length part - n
+along-length more n part h = by (more && (leb n 64 && leb 64 (length part))) refl
+  where
+    by : (b : Bool) → more && (leb n 64 && leb 64 (length part)) ≡ b → length (cond b (drop n (take 64 part)) []) ≤ length part - n
+    by true e = rw (length-drop, length-take) (omega arith)
+    by false e = omega arith
 
 ---- The rest of an output ------------------------------------------------------------------------------------------------------
 

@@ -1,9 +1,11 @@
 // Bytes put into a lent output: free bytes, a packet.
 ghost use mathlib.Core.Path.{_≡_};
+ghost use mathlib.Core.List.{_++_};
 ghost use Prim.Native.Nat.{_+_, _≤_};
-ghost use lib.ListN.{length, replicate};
+ghost use lib.ListN.{length, take, replicate};
 ghost use lib.Seq.{sets};
-ghost use Rattle.store.specs.Store.{Inside, Short, Copyable, few, block};
+ghost use Rattle.store.specs.Store.{Inside, Short, Copyable, First, few, block, along};
+use layout::both;
 use layout::either;
 
 // Puts one to three bytes from a place on: the first, the middle and the last.
@@ -113,4 +115,17 @@ pub fn put_packet(short: bool, out: &mut [u8], at: usize, packet: &[u8])
         return;
     }
     copy_ends(out, at, packet, 8);
+}
+
+// Copies a packet, the first n bytes of a part, to a place. Where more may go, one of at most 64 bytes goes by a block of 64, with what follows it in the
+// part: so no branch hangs on how long it is, which none can foresee. Who says so puts what stands behind the packet afterwards.
+pub fn put_first(more: bool, short: bool, out: &mut [u8], at: usize, part: &[u8], n: usize)
+    requires { ⌜ First (now out) at (now part) n ⌝ }
+    ensures { λ _. ⌜ now (out .exit) ≡ sets (now (out .entry)) at (take n (now (part .entry)) ++ along more n (now (part .entry))) ⌝ }
+{
+    if both(more, both(n <= 64, 64 <= part.len())) {
+        copy(out, at, part, 0, 64);
+        return;
+    }
+    put_packet(short, out, at, &part[0..n]);
 }

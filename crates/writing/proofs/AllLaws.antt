@@ -5,22 +5,25 @@ use mathlib.Core.Path.{_≡_, refl, sym, ap, _∙_}
 use mathlib.Core.Bool.{true}
 use mathlib.Core.List.{List, [], _∷_, _++_}
 use lib.ListN.{length, getD, take, drop, length-append, length-drop, length-take}
-use lib.Seq.{sets, length-sets}
+use lib.Seq.{sets, length-sets, length-take-le}
+use lib.Dec.{eqb}
 use Rattle.packet.specs.declared.At.{At}
 use Rattle.packet.specs.Counter.{holds, next, later}
 use Rattle.packet.specs.Packets.{sum, packets}
 use Rattle.packet.proofs.CounterLaws.{held, next-holds}
-use Rattle.packet.proofs.TakeLaws.{here, none-left, Taking, taking, taking-next, packet-long, packets-on}
+use Rattle.packet.proofs.TakeLaws.{here, none-left, Taking, taking, inside, others-long, taking-next, packets-on}
 use Rattle.plan.specs.declared.Plan.{Plan}
+use Rattle.plan.proofs.PlaceLaws.{behind-on}
 use Rattle.rows.specs.Counters.{Said, After}
-use Rattle.store.proofs.StoreLaws.{sets-behind}
+use Rattle.store.proofs.OverLaws.{written-over}
+use Rattle.store.proofs.StoreLaws.{along-length, sets-behind}
 use Rattle.sizing.specs.declared.Spot.{Spot}
 use Rattle.sizing.specs.Places.{spot, Formed, Placing, Placed}
 use Rattle.sizing.specs.Sizes.{reach, first}
 use Rattle.sizing.proofs.ReachLaws.{Ahead, Fit, Clear, fit-limit, fit-ahead, clear-first, spot-past, reach-past}
 use Rattle.sizing.proofs.SizeLaws.{limit-small}
 use Rattle.writing.specs.declared.Begin.{Begin}
-use Rattle.writing.specs.Bytes.{restBytes, messageBytes, Passing}
+use Rattle.writing.specs.Bytes.{restBytes, messageBytes, over, Passing}
 use Rattle.writing.specs.Puts.{passed, bytesFrom, Writable, Wrote}
 use Rattle.writing.proofs.PutLaws.{rest-length, message-length}
 
@@ -36,10 +39,16 @@ module _ {p : Plan} (k : Formed p) (free : ℕ) (a : At) (c : ℕ) (b : List ℕ
       let i : length r ≡ spot p a (length b) .from - a .q = rest-length k free (spot p a (length b) .from - a .q) in
       omega (arith, length-append r m, message-length k free c b, spot-past p a (length b))
 
-  put-one : (out : List ℕ) → sets out (a .q) (bytesFrom p free a c (b ∷ bs))
-      ≡ sets (sets out (a .q) (passed p free a (length b) ++ messageBytes p free c b)) (spot p a (length b) .next .q) others
+  -- what was put behind the one is written over
+  put-one : (out o : List ℕ) → length o ≤ length others → sets out (a .q) (bytesFrom p free a c (b ∷ bs))
+      ≡ sets (sets out (a .q) (passed p free a (length b) ++ (messageBytes p free c b ++ o))) (spot p a (length b) .next .q) others
   unfolding bytesFrom
-  put-one out = sets-behind (passed p free a (length b)) (messageBytes p free c b) others out (a .q) long
+  put-one out o h =
+      let r : List ℕ = passed p free a (length b) in
+      let m : List ℕ = messageBytes p free c b in
+      let next : ℕ = spot p a (length b) .next .q in
+      sets-behind r m others out (a .q) long
+      ∙ sym (rw (sets-behind r m o out (a .q) long) (written-over others o (sets out (a .q) (r ++ m)) next h))
 
   one-length : a .q + length (bytesFrom p free a c (b ∷ bs)) ≡ spot p a (length b) .next .q + length others
   unfolding bytesFrom
@@ -126,22 +135,40 @@ module _ {p : Plan} {b : Begin} {bs ns old : List ℕ} where
       unfolding reach
       reach-on = w .ends ∙ rw (here ns i t e)
 
-      -- where the next place is, at most
-      behind : spot p a n .next .q ≤ reach p (first (b .q)) ns .q
+      -- where the next place is, at most: the packets behind it are still to come
+      behind : spot p a n .next .q + sum (drop (i + 1) ns) ≤ reach p (first (b .q)) ns .q
       behind =
           let r : reach p (first (b .q)) ns .q ≡ reach p (spot p a n .next) (drop (i + 1) ns) .q = ap (λ x. x .q) reach-on in
           omega (arith, reach-past (h .formed) (past .ahead) (drop (i + 1) ns) (fits .1))
+
+      -- the messages still to come, and they have no fewer bytes than their packets
+      abbrev coming : List ℕ
+      coming = bytesFrom p (b .free) (spot p a n .next) (next (p .ctrwidth) c) (packets (drop (i + 1) ns) (drop (from + n) bs))
+
+      coming-least : sum (drop (i + 1) ns) ≤ length coming
+      coming-least =
+          let s = taking-next (w .taking) t e refl .left in
+          let m : sum (drop (i + 1) ns) ≡ length (drop (from + n) bs) = rw length-drop (omega arith) in
+          omega (
+            arith,
+            reach-past (h .formed) (past .ahead) (drop (i + 1) ns) (fits .1),
+            bytes-length (h .formed) (b .free) (past .ahead) (next (p .ctrwidth) c) (drop (i + 1) ns) (drop (from + n) bs) m (fits .1),
+          )
 
       pub placing : Placing p a n
       placing =
           record { formed = h .formed; small = small; near = omega (arith, past .on, spot-past p a n, behind, h .most); end = w .end }
 
-      module _ {d : Spot} (x : Placed p a n d) {part : List ℕ} (f : part ≡ take n (drop from bs)) where
-        long-part : length part ≡ n
-        long-part = packet-long (w .taking) t e f
+      module _ {d : Spot} (x : Placed p a n d) {left : List ℕ} (f : left ≡ drop from bs) where
+        there : n ≤ length left
+        there = let g = inside (w .taking) t e in rw (f, length-drop) (omega arith)
 
-        pub passing : Passing p out (a .q) (d .from) part
+        others-left : sum (drop (i + 1) ns) ≡ length left - n
+        others-left = rw f (others-long (w .taking) t e)
+
+        pub passing : Passing p out (a .q) (d .from) left n
         passing =
+            let g = behind-on p (p .size + n) in
             rw (x .is)
             (record {
               skipping = record {
@@ -150,29 +177,36 @@ module _ {p : Plan} {b : Begin} {bs ns old : List ℕ} where
                 stream = past .stream;
               };
               on = past .on;
-              small = omega (arith, small, long-part);
-              room = rw long-part (omega (arith, spot-past p a n, behind, h .room, w .long));
+              there = there;
+              small = small;
+              room = omega (arith, spot-past p a n, behind, h .room, w .long);
+              all = omega (arith, spot-past p a n, there, others-left, behind, h .room, w .long);
             })
 
-        pub writing-next : {new : List ℕ} {r to : ℕ} → to ≡ from + n
-            → new ≡ sets out (a .q) (restBytes p (b .free) (d .from - a .q) ++ messageBytes p (b .free) c part) → After (p .ctrwidth) c r
-            → Writing p b bs ns old new (d .next) r to (i + 1)
+        pub writing-next : {new : List ℕ} {r : ℕ}
+            → new ≡ sets out (a .q) (restBytes p (b .free) (d .from - a .q) ++ (messageBytes p (b .free) c (take n left) ++ over p n left))
+            → After (p .ctrwidth) c r → Writing p b bs ns old new (d .next) r (from + n) (i + 1)
         unfolding later
-        writing-next {new} {r} {to} y v u =
+        writing-next {new} {r} v u =
             let j : d .next ≡ spot p a n .next = ap (λ q. q .next) (x .is) in
-            let put : List ℕ = passed p (b .free) a (length part) ++ messageBytes p (b .free) c part in
-            let wrote : new ≡ sets out (a .q) put = v ∙ rw (x .is, long-part) in
-            let q = put-one (h .formed) (b .free) a c part (packets (drop (i + 1) ns) (drop to bs)) (rw long-part (past .on)) out in
+            let packet : List ℕ = take n left in
+            let l : length packet ≡ n = length-take-le n left there in
+            let rest : List ℕ = passed p (b .free) a (length packet) in
+            let msg : List ℕ = messageBytes p (b .free) c packet in
+            let o : List ℕ = over p n left in
+            let wrote : new ≡ sets out (a .q) (rest ++ (msg ++ o)) = v ∙ rw (x .is, l) in
+            let g : length o ≤ length coming = omega (arith, along-length (eqb (p .layout) 4) n left there, others-left, coming-least) in
+            let q = put-one (h .formed) (b .free) a c packet (packets (drop (i + 1) ns) (drop (from + n) bs)) (rw l (past .on)) out o (rw l g) in
             rw j
             (record {
               writable = h;
               held = rw (u .is) (next-holds (p .ctrwidth) c (w .held));
-              taking = taking-next (w .taking) t e y;
+              taking = taking-next (w .taking) t e refl;
               fit = fits .1;
               ends = reach-on;
               ahead = past .ahead;
               end = rw j at (x .end);
-              bytes = w .bytes ∙ rw (packets-on (w .taking) t e y f) (q ∙ rw (← wrote, long-part, ← u .is));
+              bytes = w .bytes ∙ rw (packets-on (w .taking) t e refl (ap (take n) f)) (q ∙ rw (← wrote, l, ← u .is));
               counter = w .counter ∙ rw (here ns i t e, u .is);
-              long = ap length wrote ∙ length-sets out (a .q) put ∙ w .long;
+              long = ap length wrote ∙ length-sets out (a .q) (rest ++ (msg ++ o)) ∙ w .long;
             })

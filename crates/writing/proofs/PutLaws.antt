@@ -6,11 +6,11 @@ use native.Mathlib.Nat.{zero-add, add-zero, div-add-mod'}
 use mathlib.Core.Path.{_≡_, refl, sym, ap, _∙_}
 use mathlib.Core.Logic.{inl, inr}
 use mathlib.Core.Bool.{Bool, true, false, _&&_}
-use mathlib.Core.List.{List, _++_, append-assoc}
+use mathlib.Core.List.{List, _++_, append-nil, append-assoc}
 use lib.ListN.{length, take, drop, set, replicate, length-append, length-replicate}
-use lib.Seq.{sets, sets-eq, take-all, set-set}
-use lib.Dec.{eqb, leb}
-use borrow.Author.Tests.{leb-true, leb-false, eqb-true, eqb-false, eq-eqb, ne-eqb, le-leb, lt-leb}
+use lib.Seq.{sets, sets-eq, take-all, length-take-le, set-set}
+use lib.Dec.{eqb, leb, ltb}
+use borrow.Author.Tests.{leb-true, leb-false, eqb-true, eqb-false, ne-eqb, le-leb, lt-leb, ltb-true, ltb-false, lt-ltb, le-ltb}
 use Rattle.layout.specs.Field.{bytes}
 use Rattle.layout.specs.Leaf.{Within}
 use Rattle.layout.specs.Multiple.{pad, Aligned}
@@ -19,14 +19,14 @@ use Rattle.layout.proofs.MultipleLaws.{pad-less, pad-whole, aligned-power}
 use Rattle.layout.proofs.RunLaws.{sets-append}
 use Rattle.layout.proofs.TestLaws.{and-right}
 use Rattle.plan.specs.declared.Plan.{Plan}
-use Rattle.plan.specs.Place.{rests, Beyond}
+use Rattle.plan.specs.Place.{rests, behindAt, Beyond}
 use Rattle.plan.proofs.CaseLaws.{by-test}
-use Rattle.plan.proofs.PlaceLaws.{behind-on}
+use Rattle.plan.proofs.PlaceLaws.{behind-on, untailed as align-one}
 use Rattle.store.specs.Store.{Inside, Short}
 use Rattle.store.proofs.OverLaws.{drop-replicate, front-over, fill-ends}
 use Rattle.store.proofs.StoreLaws.{sets-within, lent-rest}
 use Rattle.sizing.specs.Places.{wholeOf, Formed}
-use Rattle.writing.specs.Bytes.{restBytes, headBytes, messageBytes, lastOf, Skipping, Headed, Tailing, Fitting, Passing}
+use Rattle.writing.specs.Bytes.{restBytes, headBytes, messageBytes, lastOf, over, Skipping, Headed, Tailing, Fitting, Passing}
 
 ---- Rests ----------------------------------------------------------------------------------------------------------------------
 
@@ -127,22 +127,22 @@ pad-one (inr (inr (inl e))) l x = absurd (omega arith)
 pad-one (inr (inr (inr e))) l x = absurd (omega arith)
 
 module _ {p : Plan} {out : List ℕ} {end : ℕ} (t : Tailing p out end) (free : ℕ) where
-  pub tail-none : p .layout ≡ 3 → out ≡ sets out (end - lastOf p) (replicate (lastOf p) free)
-  tail-none e = rw (eq-eqb (p .layout) 3 e)
+  pub tail-none : 2 < p .layout → out ≡ sets out (end - lastOf p) (replicate (lastOf p) free)
+  tail-none h = rw (lt-ltb 2 (p .layout) h)
 
-  module _ (f : p .layout ≡ 3 → ⊥) where
+  module _ (f : p .layout ≤ 2) where
     pub tail-byte : p .align < 4 → set out (end - 1) free ≡ sets out (end - lastOf p) (replicate (lastOf p) free)
-    tail-byte h = rw (ne-eqb (p .layout) 3 f, lt-leb 4 (p .align) h)
+    tail-byte h = rw (le-ltb 2 (p .layout) f, lt-leb 4 (p .align) h)
 
     pub tail-ends : 4 ≤ p .align → {one two : List ℕ} → one ≡ sets out (end - p .align) (replicate 4 free)
         → two ≡ sets one (end - 4) (replicate 4 free) → two ≡ sets out (end - lastOf p) (replicate (lastOf p) free)
     tail-ends h x y =
         let l = t .reached f in
-        rw (ne-eqb (p .layout) 3 f, le-leb 4 (p .align) h)
+        rw (le-ltb 2 (p .layout) f, le-leb 4 (p .align) h)
         (fill-ends out (end - p .align) (p .align) 4 free h (omega (arith, aligned-power (t .formed .sized .aligned) .high)) x (omega arith) y)
 
 -- both runs of four lie before the end
-module _ {p : Plan} {out : List ℕ} {end : ℕ} (t : Tailing p out end) (f : p .layout ≡ 3 → ⊥) where
+module _ {p : Plan} {out : List ℕ} {end : ℕ} (t : Tailing p out end) (f : p .layout ≤ 2) where
   pub tail-starts : p .align ≤ end
   tail-starts = t .reached f
 
@@ -157,21 +157,30 @@ module _ {p : Plan} {out : List ℕ} {end : ℕ} (t : Tailing p out end) (f : p 
     tail-back e = let l = t .reached f in record { room = omega (arith, t .room) }
 
 module _ {p : Plan} (k : Formed p) where
+  -- data packets' messages may have a tail, those of a frame and of a datagram have none
+  tailed : p .layout ≤ 2 → eqb (p .layout) 3 ≡ false
+  tailed f = ne-eqb (p .layout) 3 (λ e. omega arith)
+
+  untailed : 2 < p .layout → (e : ℕ) → behindAt p e ≡ e
+  untailed h e = by-test (eqb (p .layout) 3) (λ g. rw g)
+      (λ g. let f = eqb-false (p .layout) 3 g in align-one p (k .unaligned (omega (arith, k .layout-most))) e)
+
   module _ (n : ℕ) {w : ℕ} (v : Beyond (wholeOf p n) (p .size + n) w) where
-    reached : (p .layout ≡ 3 → ⊥) → p .align ≤ w
+    reached : p .layout ≤ 2 → p .align ≤ w
     reached f =
-        let e : w ≡ p .size + n + pad (p .align) (p .size + n) = v .is ∙ rw (ne-eqb (p .layout) 3 f) in
+        let e : w ≡ p .size + n + pad (p .align) (p .size + n) = v .is ∙ rw (tailed f) in
         let m = pad-whole (p .align) (p .size + n) (aligned-power (k .sized .aligned) .low) in
         multiple-least (p .align) w (omega (arith, v .on, k .sized .size-least)) (rw e m)
 
     -- the last bytes lie inside the message, and hold the tail
     last-bytes : (w ≤ p .size + n + lastOf p) × (lastOf p ≤ w)
     last-bytes =
-        by-test (eqb (p .layout) 3) (λ g. let e : w ≡ p .size + n = v .is ∙ rw g in rw g (omega arith, omega arith))
-        (λ g. let e : w ≡ p .size + n + pad (p .align) (p .size + n) = v .is ∙ rw g in
+        by-test (ltb 2 (p .layout)) (λ g. let e = v .is ∙ untailed (ltb-true 2 (p .layout) g) (p .size + n) in rw g (omega arith, omega arith))
+        (λ g. let f = ltb-false 2 (p .layout) g in
+        let e : w ≡ p .size + n + pad (p .align) (p .size + n) = v .is ∙ rw (tailed f) in
         by-test (leb 4 (p .align))
         (λ h. let l = pad-less (p .align) (p .size + n) (aligned-power (k .sized .aligned) .low) in
-        rw (g, h) (omega arith, reached (eqb-false (p .layout) 3 g)))
+        rw (g, h) (omega arith, reached f))
         (λ h. let l = pad-one (k .sized .aligned) (leb-false 4 (p .align) h) (p .size + n) in
         rw (g, h) (omega arith, omega (arith, v .on, k .sized .size-least))))
 
@@ -180,10 +189,10 @@ module _ {p : Plan} (k : Formed p) where
   pub head-length : (free c n : ℕ) → length (headBytes p free c n) ≡ p .size
   head-length free c n = simp (length-append, length-replicate, length-bytes) (omega (arith, k .sized .fields))
 
-  pub message-put : (out b : List ℕ) (ctr free : ℕ) {w : ℕ} {end one new : List ℕ} → Beyond (wholeOf p (length b)) (p .size + length b) w
+  whole-put : (out b : List ℕ) (ctr free : ℕ) {w : ℕ} {end one new : List ℕ} → Beyond (wholeOf p (length b)) (p .size + length b) w
       → end ≡ sets out (w - lastOf p) (replicate (lastOf p) free) → one ≡ sets end 0 (headBytes p free ctr (length b))
       → new ≡ sets one (p .size) b → new ≡ sets out 0 (messageBytes p free ctr b)
-  message-put out b ctr free {w} {end} {one} {new} v z x y =
+  whole-put out b ctr free {w} {end} {one} {new} v z x y =
       let n : ℕ = length b in
       let hs : List ℕ = headBytes p free ctr n in
       let i : ℕ = lastOf p in
@@ -202,13 +211,31 @@ module _ {p : Plan} (k : Formed p) where
   message-length free c b =
       simp (length-append, length-replicate, length-bytes) (omega (arith, k .sized .fields, behind-on p (p .size + length b)))
 
-module _ {p : Plan} {out b : List ℕ} (h : Fitting p out b) {w : ℕ} (v : Beyond (wholeOf p (length b)) (p .size + length b) w) where
+  -- a message, and behind it what goes with its packet
+  pub message-put : (out left : List ℕ) (n ctr free : ℕ) {w : ℕ} {end one new : List ℕ} → n ≤ length left → Beyond (wholeOf p n) (p .size + n) w
+      → end ≡ sets out (w - lastOf p) (replicate (lastOf p) free) → one ≡ sets end 0 (headBytes p free ctr n)
+      → new ≡ sets one (p .size) (take n left ++ over p n left) → new ≡ sets out 0 (messageBytes p free ctr (take n left) ++ over p n left)
+  message-put out left n ctr free {w} {end} {one} {new} h v z x y =
+      let b : List ℕ = take n left in
+      let o : List ℕ = over p n left in
+      let msg : List ℕ = messageBytes p free ctr b in
+      let e : length b ≡ n = length-take-le n left h in
+      let alone : sets one (p .size) b ≡ sets out 0 msg = whole-put out b ctr free (rw e v) z (rw e x) refl in
+      let behind : new ≡ sets (sets out 0 msg) (p .size + n) o =
+      y ∙ sets-append b o one (p .size) ∙ rw alone (ap (λ i. sets (sets out 0 msg) (p .size + i) o) e) in
+      by-test (eqb (p .layout) 4)
+      (λ g. let f = eqb-true (p .layout) 4 g in
+      let m : length msg ≡ p .size + n = message-length free ctr b ∙ rw e (untailed (omega arith) (p .size + n)) in
+      behind ∙ sym (sets-append msg o out 0 ∙ rw (m, zero-add (p .size + n))))
+      (λ g. behind ∙ rw (g, append-nil msg))
+
+module _ {p : Plan} {out left : List ℕ} {n : ℕ} (h : Fitting p out left n) {w : ℕ} (v : Beyond (wholeOf p n) (p .size + n) w) where
   pub tailing : Tailing p out w
   tailing =
       record {
         formed = h .formed;
         some = omega (arith, v .on, h .formed .sized .size-least);
-        reached = reached (h .formed) (length b) v;
+        reached = reached (h .formed) n v;
         room = omega (arith, v .is, h .room);
       }
 
@@ -224,7 +251,8 @@ module _ {p : Plan} {out b : List ℕ} (h : Fitting p out b) {w : ℕ} (v : Beyo
       }
 
 -- a message behind the rest before it, where the output from its place on was lent
-pub one-put : {p : Plan} {out : List ℕ} {q from : ℕ} {b : List ℕ} → Passing p out q from b → (free : ℕ) (msg : List ℕ) {one ys : List ℕ}
+pub one-put : {p : Plan} {out : List ℕ} {q from : ℕ} {left : List ℕ} {n : ℕ} → Passing p out q from left n
+    → (free : ℕ) (msg : List ℕ) {one ys : List ℕ}
     → one ≡ sets out q (restBytes p free (from - q)) → ys ≡ sets (take (length one - from) (drop from one)) 0 msg
     → take from one ++ (ys ++ drop (length one - from) (drop from one)) ≡ sets out q (restBytes p free (from - q) ++ msg)
 one-put {p} {out} {q} {from} h free msg {one} x y =

@@ -5,10 +5,11 @@ use mathlib.Core.Path.{_≡_}
 use mathlib.Core.Bool.{cond, _&&_}
 use mathlib.Core.List.{List, _++_}
 use lib.ListN.{length, replicate}
-use lib.Dec.{eqb, leb}
+use lib.Dec.{eqb, leb, ltb}
 use Rattle.layout.specs.Field.{bytes}
 use Rattle.plan.specs.declared.Plan.{Plan}
 use Rattle.plan.specs.Place.{rests}
+use Rattle.store.specs.Store.{along}
 use Rattle.sizing.specs.Places.{wholeOf, Formed}
 
 -- a rest of n bytes: free, but for a zero LEN where data packets may end with a rest and a header fits
@@ -24,9 +25,13 @@ headBytes p free c n =
 abbrev pub messageBytes : Plan → (free c : ℕ) → List ℕ → List ℕ
 messageBytes p free c b = headBytes p free c (length b) ++ (b ++ replicate (wholeOf p (length b) - (p .size + length b)) free)
 
--- so many last bytes of a message, which hold its tail, if it has one: as many as the alignment, or one below 4
+-- so many last bytes of a message, which hold its tail, if it has one: as many as the alignment, or one below 4. A frame and a datagram have none
 abbrev pub lastOf : Plan → ℕ
-lastOf p = cond (eqb (p .layout) 3) 0 (cond (leb 4 (p .align)) (p .align) 1)
+lastOf p = cond (ltb 2 (p .layout)) 0 (cond (leb 4 (p .align)) (p .align) 1)
+
+-- what comes to stand behind a datagram's message, whose packet is the first n bytes of those left, until the next one is written over it
+abbrev pub over : Plan → (n : ℕ) → List ℕ → List ℕ
+over p n left = along (eqb (p .layout) 4) n left
 
 ---- What putting them asks -----------------------------------------------------------------------------------------------------
 
@@ -56,18 +61,22 @@ pub record Headed (p : Plan) (out : List ℕ) : Type 0 where
 pub record Tailing (p : Plan) (out : List ℕ) (end : ℕ) : Type 0 where
   pub formed : Formed p
   pub some : 1 ≤ end
-  pub reached : (p .layout ≡ 3 → ⊥) → p .align ≤ end
+  pub reached : p .layout ≤ 2 → p .align ≤ end
   pub room : end ≤ length out
 
--- a packet whose message fits into the output
-pub record Fitting (p : Plan) (out packet : List ℕ) : Type 0 where
+-- a packet, the first n bytes of those left, whose message fits into the output; and those left would fit behind its header
+pub record Fitting (p : Plan) (out left : List ℕ) (n : ℕ) : Type 0 where
   pub formed : Formed p
-  pub small : length packet < 65536
-  pub room : wholeOf p (length packet) ≤ length out
+  pub there : n ≤ length left
+  pub small : n < 65536
+  pub room : wholeOf p n ≤ length out
+  pub all : p .size + length left ≤ length out
 
 -- .. from a place on, behind the bytes passed over from q on
-pub record Passing (p : Plan) (out : List ℕ) (q from : ℕ) (packet : List ℕ) : Type 0 where
+pub record Passing (p : Plan) (out : List ℕ) (q from : ℕ) (left : List ℕ) (n : ℕ) : Type 0 where
   pub skipping : Skipping p out q (from - q)
   pub on : q ≤ from
-  pub small : length packet < 65536
-  pub room : from + wholeOf p (length packet) ≤ length out
+  pub there : n ≤ length left
+  pub small : n < 65536
+  pub room : from + wholeOf p n ≤ length out
+  pub all : from + p .size + length left ≤ length out

@@ -3,10 +3,10 @@
 ghost use mathlib.Core.Path.{_≡_};
 ghost use mathlib.Core.List.{_++_};
 ghost use Prim.Native.Nat.{_-_};
-ghost use lib.ListN.{length, replicate};
+ghost use lib.ListN.{length, take, replicate};
 ghost use lib.Seq.{sets};
 ghost use Rattle.plan.specs.Plan.{Cased};
-ghost use Rattle.writing.specs.Bytes.{restBytes, headBytes, messageBytes, lastOf, Resting, Skipping, Few, Headed, Tailing, Fitting, Passing};
+ghost use Rattle.writing.specs.Bytes.{restBytes, headBytes, messageBytes, lastOf, over, Resting, Skipping, Few, Headed, Tailing, Fitting, Passing};
 ghost use Rattle.writing.specs.Puts.{Writable, Wrote};
 use layout::both;
 use layout::put_field;
@@ -19,7 +19,7 @@ use plan::rests;
 use rows::after;
 use sizing::place;
 use store::fill_few;
-use store::put_packet;
+use store::put_first;
 use store::set;
 
 // Where messages are to be put, the first one's counter, and the free byte.
@@ -85,12 +85,12 @@ fn put_header(p: Plan, out: &mut [u8], n: usize, ctr: u32, free: u8)
     );
 }
 
-// Fills at least as many last bytes of a message that ends there as its tail can have: none in a frame. Header and packet go over them.
+// Fills at least as many last bytes of a message that ends there as its tail can have: none in a frame or a datagram. Header and packet go over them.
 fn put_tail(p: Plan, out: &mut [u8], end: usize, free: u8)
     requires { ⌜ Tailing p (now out) end ⌝ }
     ensures { λ _. ⌜ now (out .exit) ≡ sets (now (out .entry)) (end - lastOf p) (replicate (lastOf p) free) ⌝ }
 {
-    if p.layout == 3 {
+    if 2 < p.layout {
         return;
     }
     if 4 <= p.align {
@@ -101,26 +101,36 @@ fn put_tail(p: Plan, out: &mut [u8], end: usize, free: u8)
     out[end - 1] = free;
 }
 
-// Writes a message at the front: its tail, header and packet. A frame's packet is likely short. For the others a copy of short packets by itself
-// would make the loop so dear that the compiler makes no loop for each case.
-fn put_message(p: Plan, out: &mut [u8], packet: &[u8], ctr: u32, free: u8)
-    requires { ⌜ Fitting p (now out) (now packet) ⌝ }
-    ensures { λ _. ⌜ now (out .exit) ≡ sets (now (out .entry)) 0 (messageBytes p free ctr (now (packet .entry))) ⌝ }
+// Writes a message at the front: its tail, header and packet, the first n bytes of those left. In a datagram more of them may go, which the next message
+// is written over. A frame's packet is likely short. With either for the others the loop would be so dear that the compiler makes no loop for
+// each case.
+fn put_message(p: Plan, out: &mut [u8], left: &[u8], n: usize, ctr: u32, free: u8)
+    requires { ⌜ Fitting p (now out) (now left) n ⌝ }
+    ensures { λ _. ⌜ now (out .exit) ≡ sets (now (out .entry)) 0
+        (messageBytes p free ctr (take n (now (left .entry))) ++ over p n (now (left .entry))) ⌝ }
 {
-    let n = packet.len();
     put_tail(p, out, behind(p, p.size + n), free);
     put_header(p, out, n, ctr, free);
-    put_packet(p.layout == 3, out, p.size, packet);
+    put_first(p.layout == 4, p.layout == 3, out, p.size, left, n);
 }
 
 // Writes a message where it comes to stand, behind what is passed over from q on. It is handed the rest of the output.
-fn put_one(p: Plan, out: &mut [u8], q: usize, from: usize, packet: &[u8], ctr: u32, free: u8)
-    requires { ⌜ Passing p (now out) q from (now packet) ⌝ }
+fn put_one(
+    p: Plan,
+    out: &mut [u8],
+    q: usize,
+    from: usize,
+    left: &[u8],
+    n: usize,
+    ctr: u32,
+    free: u8,
+)
+    requires { ⌜ Passing p (now out) q from (now left) n ⌝ }
     ensures { λ _. ⌜ now (out .exit) ≡ sets (now (out .entry)) q
-        (restBytes p free (from - q) ++ messageBytes p free ctr (now (packet .entry))) ⌝ }
+        (restBytes p free (from - q) ++ (messageBytes p free ctr (take n (now (left .entry))) ++ over p n (now (left .entry)))) ⌝ }
 {
     put_passed(p, out, q, from - q, free);
-    put_message(p, &mut out[from..], packet, ctr, free);
+    put_message(p, &mut out[from..], left, n, ctr, free);
 }
 
 // Writes messages from a place on, and gives the counter behind them.
@@ -147,13 +157,12 @@ pub fn put_loop(
     let mut i: usize = 0;
     while i < lengths.len() {
         let n = wide32(lengths[i]);
-        let to = from + n;
         let s = place(p, a, n);
-        let part = &packets[from..to];
-        put_one(p, out, a.q, s.from, part, c, b.free);
+        let left = &packets[from..];
+        put_one(p, out, a.q, s.from, left, n, c, b.free);
         c = after(p.ctrwidth, c);
         a = s.next;
-        from = to;
+        from += n;
         i += 1;
     }
     c

@@ -5,7 +5,7 @@ use native.Mathlib.Omega.{arith}
 use mathlib.Core.Path.{refl}
 use lib.ListN.{length}
 use borrow.Author.Needs.{needs}
-use Rattle.packet.proofs.TakeLaws.{inside, part-is}
+use Rattle.packet.proofs.TakeLaws.{inside, left-is}
 use Rattle.writing.proofs.AllLaws.{Writing, writing, writing-done, said, placing, passing, writing-next}
 use Rattle.writing.proofs.put_loop.Statement.{statement}
 use Rattle.writing.proofs.put_loop.Tie as tie
@@ -20,21 +20,11 @@ abbrev μ-loop : tie.MeasureT-loop
 begins : tie.Need-loop-holds Inv-loop μ-loop
 begins c = writing (rw (c .cased .ensures) (c .before .before .before .before .pre .1))
 
-to-fits : tie.Need-add-to Inv-loop μ-loop
-to-fits c =
-    let t = c .before .before in
-    let h = inside (t .before .loop .inv .taking) (t .loop-test .taken) (c .wide32 .ensures .0) in
-    record { fits = omega (arith, t .before .before .before .before .before .before .good) }
-
 places : tie.Need-place-requires Inv-loop μ-loop
 places c κs = let t = c .before .before in placing (t .before .loop .inv) (t .loop-test .taken) (c .wide32 .ensures .0)
 
-ends-inside : tie.Need-part-part-end Inv-loop μ-loop
-ends-inside c =
-    let w = c .before in
-    let t = w .before .before in
-    let h = inside (t .before .loop .inv .taking) (t .loop-test .taken) (w .wide32 .ensures .0) in
-    search needs
+starts-inside : tie.Need-part-left-start Inv-loop μ-loop
+starts-inside c = let h = c .before .before .before .before .loop .inv .taking .left in search needs
 
 stands : tie.Need-put-one-requires Inv-loop μ-loop
 stands c κs =
@@ -43,10 +33,17 @@ stands c κs =
     let t = w .before .before in
     let i = t .before in
     passing (i .loop .inv) (t .loop-test .taken) (w .wide32 .ensures .0) (d .place .ensures)
-    (part-is (i .before .before .before .before .before .args .packets .now) (i .loop .from) (w .wide32 .result))
+    (left-is (i .before .before .before .before .before .args .packets .now) (i .loop .from))
 
 says : tie.Need-after-requires Inv-loop μ-loop
 says c κs = said (c .before .before .before .before .before .before .before .before .before .loop .inv)
+
+moves : tie.Need-add-from Inv-loop μ-loop
+moves c =
+    let w = c .before .before .before .before .before .before .before .before in
+    let t = w .before .before in
+    let h = inside (t .before .loop .inv .taking) (t .loop-test .taken) (w .wide32 .ensures .0) in
+    record { fits = omega (arith, t .before .before .before .before .before .before .good) }
 
 counts : tie.Need-add-i Inv-loop μ-loop
 counts c =
@@ -67,8 +64,7 @@ again c =
     let t = w .before .before in
     let i = t .before in
     writing-next (i .loop .inv) (t .loop-test .taken) (w .wide32 .ensures .0) (d .place .ensures)
-    (part-is (i .before .before .before .before .before .args .packets .now) (i .loop .from) (w .wide32 .result)) refl (o .put-one .ensures)
-    (r .after .ensures)
+    (left-is (i .before .before .before .before .before .args .packets .now) (i .loop .from)) (o .put-one .ensures) (r .after .ensures)
 
 ends : tie.Need-returns Inv-loop μ-loop
 ends c = let i = c .before in rw (i .before .cased .ensures) at (writing-done (i .loop .inv) (omega arith))
@@ -76,5 +72,5 @@ ends c = let i = c .before in rw (i .before .cased .ensures) at (writing-done (i
 pub put-loop-spec : {M : Type 1} → statement M
 put-loop-spec =
     tie.close
-    (tie.spec Inv-loop μ-loop (λ c κs. search needs) begins (λ c. search needs) (λ c. search needs) (λ c κs. search needs) to-fits places
-    (λ c. search needs) (λ c. search needs) ends-inside stands says counts falls again (λ c. search needs) ends)
+    (tie.spec Inv-loop μ-loop (λ c κs. search needs) begins (λ c. search needs) (λ c. search needs) (λ c κs. search needs) places
+    (λ c. search needs) starts-inside (λ c. search needs) stands says moves counts falls again (λ c. search needs) ends)
