@@ -5,7 +5,7 @@ use native.Mathlib.Omega.{arith}
 use mathlib.Core.Path.{_≡_}
 use mathlib.Core.List.{List}
 use Rattle.layout.specs.Rule.{Leftmost}
-use Rattle.layout.specs.Walk.{Step, Out, walk, Forward, Leads, Ends, Step.done, Step.fault, Out.list, Out.refused, Ends.ends, Ends.stops}
+use Rattle.layout.specs.Walk.{Step, walk, Forward, Leads, Ends, Step.done, Step.fault, Out.list, Out.refused, Ends.ends, Ends.stops}
 use Rattle.layout.proofs.WalkLaws.{walked, ended, reaches}
 
 -- what the steps have to do with a layout, and with its rules

@@ -4,7 +4,7 @@ use native.Mathlib.Omega.{arith}
 use borrow.Author.Needs.{needs}
 use mathlib.Core.Path.{_≡_, refl, sym, ap, _∙_}
 use mathlib.Core.Bool.{Bool, true, false, _&&_, _||_}
-use mathlib.Core.List.{List, []}
+use mathlib.Core.List.{List}
 use lib.ListN.{length, length-append}
 use lib.Seq.{sets}
 use lib.Dec.{ltb, eqb}
@@ -35,7 +35,7 @@ use Rattle.writing.proofs.AllLaws.{bytes-length}
 use Rattle.writing.proofs.PutLaws.{rest-length}
 use Rattle.message_writer.specs.declared.Weighed.{Weighed}
 use Rattle.message_writer.specs.declared.Weighed.the-variants as S
-use Rattle.message_writer.specs.Writes.{endOf, composed, outputOf, writesBy, Sizing, Putting, Ahead, Counted, Sizes, Weighs}
+use Rattle.message_writer.specs.Writes.{endOf, composed, outputOf, writesBy, Sizing, Putting, Ahead, Sizes, Weighs}
 use Rattle.message_writer.specs.Writes.{Fitted, Roomy, Composed}
 use Rattle.message_writer.proofs.CaseLaws.{formed}
 

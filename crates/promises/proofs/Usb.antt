@@ -1,7 +1,6 @@
 -- What is promised of usb_reader::read and usb_writer::write: each theorem is about any answer r that the function's contract allows, and about
 -- the lent table or output as the call then leaves it. OneResult says that there is only one.
 use Prim.Native.Nat.{ℕ, _+_, _-_, _*_, _/_, _%_, _<_, _≤_}
-use native.Mathlib.Omega.{arith}
 use mathlib.Core.Path.{_≡_, refl, sym, ap, _∙_}
 use mathlib.Core.Bool.{Bool, true, false}
 use mathlib.Core.List.{List, [], map}

@@ -21,7 +21,7 @@ pub record Copyable (out : List ℕ) (at : ℕ) (bs : List ℕ) (i n : ℕ) : Ty
   pub there : i + n ≤ length bs
   pub most : n ≤ 65536
 
--- the first n bytes of a part, for which there is room
+-- the first n bytes of a part, for all of which there is room
 pub record First (out : List ℕ) (at : ℕ) (part : List ℕ) (n : ℕ) : Type 0 where
   pub there : n ≤ length part
   pub most : n ≤ 65536

@@ -118,7 +118,7 @@ pub fn put_packet(short: bool, out: &mut [u8], at: usize, packet: &[u8])
 }
 
 // Copies a packet, the first n bytes of a part, to a place. Where more may go, one of at most 64 bytes goes by a block of 64, with what follows it in the
-// part: so no branch hangs on how long it is, which none can foresee. Who says so puts what stands behind the packet afterwards.
+// part: so no branch hangs on how long it is, which none can foresee. Whoever lets more go writes what stands behind the packet afterwards.
 pub fn put_first(more: bool, short: bool, out: &mut [u8], at: usize, part: &[u8], n: usize)
     requires { ⌜ First (now out) at (now part) n ⌝ }
     ensures { λ _. ⌜ now (out .exit) ≡ sets (now (out .entry)) at (take n (now (part .entry)) ++ along more n (now (part .entry))) ⌝ }

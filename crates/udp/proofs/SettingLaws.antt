@@ -1,5 +1,5 @@
 -- The header's numbers, and what a sound setting has.
-use Prim.Native.Nat.{ℕ, _<_, _≤_}
+use Prim.Native.Nat.{_<_, _≤_}
 use mathlib.Core.Path.{_≡_, refl}
 use mathlib.Core.Bool.{true}
 use borrow.Author.Tests.{leb-true, ltb-true}

@@ -1,5 +1,4 @@
 -- The plan of a setting: layout 4, LEN and CTR words, alignment 1, and the longest datagram as its one data packet.
-use Prim.Native.Nat.{ℕ}
 use Rattle.layout.specs.Field.{shape}
 use Rattle.plan.specs.declared.Plan.{Plan}
 use Rattle.plan.specs.Plan.{planOf as joined}

@@ -1,20 +1,19 @@
 -- The one law of UDP about the step: it tells what the definition says is ahead.
-use Prim.Native.Nat.{ℕ, _+_, _<_, _≤_, min}
+use Prim.Native.Nat.{ℕ, _+_, _≤_, min}
 use native.Mathlib.Omega.{arith}
 use native.Mathlib.Nat.{add-zero}
-use mathlib.Core.Path.{_≡_, refl, sym, ap, _∙_}
+use mathlib.Core.Path.{_≡_, refl, sym, _∙_}
 use mathlib.Core.List.{List, [], _∷_}
 use lib.ListN.{length}
 use borrow.Author.Tests.{le-leb}
-use Rattle.layout.specs.Walk.{after, before, Out.list, Out.refused}
+use Rattle.layout.specs.Walk.{after, before}
 use Rattle.layout.proofs.WalkLaws.{walk-eq}
 use Rattle.packet.specs.declared.At.{At}
 use Rattle.packet.specs.declared.Seen.{Seen}
-use Rattle.packet.specs.declared.Seen.the-variants as S
 use Rattle.packet.specs.Seen.{message, asStep}
 use Rattle.reading.specs.Loops.{Standing}
 use Rattle.reading.specs.Reads.{Tells}
-use Rattle.reading.specs.Step.{len, next, limit, there, nextAt, Says}
+use Rattle.reading.specs.Step.{len, next, there, Says}
 use Rattle.reading.specs.Step.{seen as seenBy}
 use Rattle.reading.proofs.ViewLaws.{View, View.rest, View.empty, View.cut, View.zeroed, View.nothing, View.over, View.past, view}
 use Rattle.reading.proofs.ViewLaws.{View.message as fitting}

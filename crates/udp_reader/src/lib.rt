@@ -1,5 +1,4 @@
 // The UDP reader: by the plan of its setting.
-ghost use mathlib.Core.Path.{_≡_};
 ghost use Rattle.packet.specs.Answer.{Gives};
 ghost use Rattle.lent.specs.Told.{Tells};
 ghost use Rattle.udp.specs.Reading.{readOf};

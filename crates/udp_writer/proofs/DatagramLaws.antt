@@ -1,10 +1,9 @@
 -- The bytes that the loop puts are those of a datagram, and the lengths that it takes are those that fit.
 use Prim.Native.Nat.{ℕ, _+_, _-_}
-use native.Mathlib.Omega.{arith}
 use native.Mathlib.Nat.{sub-self}
-use mathlib.Core.Path.{_≡_, refl, sym, _∙_}
+use mathlib.Core.Path.{_≡_, refl}
 use mathlib.Core.Bool.{false, or-false, _||_}
-use mathlib.Core.List.{List, [], _∷_, _++_, append-nil, append-assoc}
+use mathlib.Core.List.{List, [], _∷_, append-nil}
 use lib.ListN.{length}
 use lib.Dec.{eqb, ltb}
 use Rattle.layout.specs.Field.{bytes}
@@ -20,8 +19,8 @@ use Rattle.writing.specs.Puts.{bytesFrom}
 use Rattle.message_writer.specs.Writes.{outputOf}
 use Rattle.udp.specs.declared.Setting.{Setting}
 use Rattle.udp.specs.Plan.{planOf}
-use Rattle.udp.specs.Setting.{fields, H, W}
-use Rattle.udp.specs.Writing.{messageBytes, misfit, write}
+use Rattle.udp.specs.Setting.{fields, W}
+use Rattle.udp.specs.Writing.{misfit, write}
 
 module _ (s : Setting) where
   -- a length fits by itself, wherever its message stands

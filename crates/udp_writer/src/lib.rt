@@ -1,5 +1,4 @@
 // The UDP writer: by the plan of its setting. No byte of a datagram is free, and none is filled up.
-ghost use mathlib.Core.Path.{_≡_};
 ghost use Rattle.packet.specs.Answer.{Gives};
 ghost use Rattle.udp.specs.Writing.{writeOf};
 use lengths::refuse;

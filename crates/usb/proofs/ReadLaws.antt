@@ -2,10 +2,9 @@
 use Prim.Native.Nat.{ℕ, _-_, _<_, _≤_}
 use native.Mathlib.Omega.{arith}
 use mathlib.Core.Path.{_≡_, refl, sym, ap, _∙_}
-use mathlib.Core.Bool.{true}
 use mathlib.Core.List.{List, []}
 use lib.ListN.{length, drop, length-drop, drop-of-length-le}
-use Rattle.layout.specs.Walk.{Out.list, Step.done}
+use Rattle.layout.specs.Walk.{Out.list}
 use Rattle.layout.proofs.OutcomeLaws as O
 use Rattle.layout.proofs.OutcomeLaws.{Keeps}
 use Rattle.packet.specs.Message.{Msg}

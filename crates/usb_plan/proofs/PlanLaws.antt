@@ -1,5 +1,5 @@
 -- A sound setting's plan: the numbers of its header, by tests over all headers that are computed.
-use Prim.Native.Nat.{_+_, _%_, _^_, _<_, _≤_}
+use Prim.Native.Nat.{_+_, _%_, _^_, _<_}
 use native.Mathlib.Omega.{arith}
 use mathlib.Core.Path.{_≡_, refl}
 use mathlib.Core.Bool.{true, false}

@@ -1,5 +1,4 @@
 // The USB writer: by the plan of its setting.
-ghost use mathlib.Core.Path.{_≡_};
 ghost use Rattle.packet.specs.Answer.{Gives};
 ghost use Rattle.usb.specs.Writing.{writeOf};
 use lengths::refuse;

@@ -202,10 +202,10 @@ module _ {p : Plan} (k : Formed p) where
       let both : new ≡ sets end 0 (hs ++ b) = y ∙ rw x (sym (sets-append hs b end 0 ∙ rw (l, zero-add (p .size)))) in
       let f : List ℕ = replicate i free in
       let j : ℕ = w - i in
-      let over : sets (sets out j f) 0 (hs ++ b) ≡ sets out 0 ((hs ++ b) ++ drop (length (hs ++ b) - j) f) =
+      let front : sets (sets out j f) 0 (hs ++ b) ≡ sets out 0 ((hs ++ b) ++ drop (length (hs ++ b) - j) f) =
       rw zero-add at (front-over (hs ++ b) f out 0 j (omega arith)) in
       let e : i - (length (hs ++ b) - j) ≡ w - (p .size + n) = omega (arith, v .on) in
-      both ∙ rw z (over ∙ rw (drop-replicate (length (hs ++ b) - j) i free, e, append-assoc hs b (replicate (w - (p .size + n)) free), v .is))
+      both ∙ rw z (front ∙ rw (drop-replicate (length (hs ++ b) - j) i free, e, append-assoc hs b (replicate (w - (p .size + n)) free), v .is))
 
   pub message-length : (free c : ℕ) (b : List ℕ) → length (messageBytes p free c b) ≡ wholeOf p (length b)
   message-length free c b =

@@ -1,5 +1,4 @@
 -- A block of 64, or the packet alone, by what the two tests come to.
-use native.Mathlib.Omega.{arith}
 use native.Mathlib.Nat.{sub-zero}
 use mathlib.Core.Path.{_≡_, sym, _∙_}
 use mathlib.Core.Bool.{true, false, _&&_}

@@ -2,7 +2,6 @@
 -- loop's test, i its invariant.
 use Prim.Native.Nat.{_-_}
 use native.Mathlib.Omega.{arith}
-use mathlib.Core.Path.{refl}
 use lib.ListN.{length}
 use borrow.Author.Needs.{needs}
 use Rattle.packet.proofs.TakeLaws.{inside, left-is}
