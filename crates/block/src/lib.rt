@@ -1,4 +1,5 @@
 // The XCP_ON_USB block: its opening words, its entries, its end, and nothing behind it.
+#![tactic(auto)]
 ghost use Rattle.std.specs.Prelude.{◌≡◌, [], ◌≤◌, length};
 ghost use Rattle.std.proofs.Math.Option.{none};
 ghost use Rattle.description.specs.Reading.{State, whole, gone_on, reading};
@@ -14,7 +15,7 @@ use keywords::Kind;
 use passing::{Sign, next_sign};
 
 // What was found behind an entry, and the place there; or what the whole block comes to.
-#[derive(Drop)]
+#[derive(Clone, Copy)]
 enum Step {
     On(Gathered, usize),
     Done(Outcome),

@@ -1,8 +1,9 @@
 // The XCP_ON_USB block of a description file: what it says, and what is answered to a text.
+#![tactic(auto)]
 use usb::Setting;
 
 // What an endpoint block says: data packet size M, packing, alignment in bytes.
-#[derive(Drop)]
+#[derive(Clone, Copy)]
 pub struct Endpoint {
     pub datapacket: u32,
     pub packing: u32,
@@ -10,7 +11,7 @@ pub struct Endpoint {
 }
 
 // What the block says: its header, and the endpoints of CMD and STIM and of RES, ERR, DAQ, EV and SERV.
-#[derive(Drop)]
+#[derive(Clone, Copy)]
 pub struct Said {
     pub header: u32,
     pub cmd: Endpoint,
@@ -18,21 +19,21 @@ pub struct Said {
 }
 
 // What a text's words come to: what the block says, or the place that is wrong.
-#[derive(Drop)]
+#[derive(Clone, Copy)]
 pub enum Outcome {
     Right(Said),
     Wrong(usize),
 }
 
 // The place behind words that were read; or the place that is wrong.
-#[derive(Drop)]
+#[derive(Clone, Copy)]
 pub enum Reached {
     At(usize),
     Wrong(usize),
 }
 
 // The settings of the CMD/STIM and of the RES/DAQ endpoint; or a refusal's number and place.
-#[derive(Drop)]
+#[derive(Clone, Copy)]
 pub enum Described {
     Both(Setting, Setting),
     Refused(u32, u32),

@@ -1,4 +1,5 @@
 // An entry that opens a block: an endpoint, or a block that is read over.
+#![tactic(auto)]
 ghost use Rattle.std.specs.Prelude.{◌≡◌, true, [], ◌≤◌, length};
 ghost use Rattle.std.proofs.Math.Seq.{slice};
 ghost use Rattle.keywords.specs.Tables.{plain, ordinary, name};
@@ -13,21 +14,21 @@ use passing::{Sign, next_sign, pass_over};
 use words::same;
 
 // What a name is that stands behind /begin.
-#[derive(Drop)]
+#[derive(Clone, Copy)]
 enum Name {
     Endpoint(Side),
     Other,
 }
 
 // An endpoint that was found, or none so far.
-#[derive(Drop)]
+#[derive(Clone, Copy)]
 pub enum Slot {
     Empty,
     Holds(Endpoint),
 }
 
 // What was found so far: the header, and endpoints.
-#[derive(Drop)]
+#[derive(Clone, Copy)]
 pub struct Gathered {
     pub header: u32,
     pub cmd: Slot,
@@ -35,14 +36,14 @@ pub struct Gathered {
 }
 
 // An endpoint, and the place behind its block; or the place that is wrong.
-#[derive(Drop)]
+#[derive(Clone, Copy)]
 enum Parsing {
     Endpoint(Endpoint, usize),
     Wrong(usize),
 }
 
 // What was found behind an entry, and the place there; or the place that is wrong.
-#[derive(Drop)]
+#[derive(Clone, Copy)]
 pub enum Entry {
     At(Gathered, usize),
     Wrong(usize),

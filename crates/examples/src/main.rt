@@ -1,5 +1,6 @@
 // Runs the examples of document 01, and some of our own for datagrams, and prints what is answered; the file `stdout` holds what that
 // document and Ask 3 say.
+#![tactic(auto)]
 use libc::STDOUT_FILENO;
 use packet::{Counter, Reading, Writing};
 use usb::Setting;

@@ -1,4 +1,5 @@
 // Words that must stand at a place: one of a kind, and a series of them.
+#![tactic(auto)]
 ghost use Rattle.std.specs.Prelude.{◌≡◌, ◌<◌, ◌≤◌, length, get_or};
 ghost use Rattle.keywords.specs.Saying.{meaning};
 ghost use Rattle.expecting.specs.Expecting.{Expects, kinds, Led};
@@ -8,14 +9,14 @@ use finding::{Next, next_word};
 use keywords::{Kind, Meant, says};
 
 // What a word says, and the place behind it; or the place that is wrong.
-#[derive(Drop)]
+#[derive(Clone, Copy)]
 pub enum Expected {
     Word(u32, usize),
     Wrong(usize),
 }
 
 // The words that open the block; those behind an endpoint's name.
-#[derive(Drop)]
+#[derive(Clone, Copy)]
 pub enum Series {
     Opening,
     Parameters,

@@ -1,4 +1,5 @@
 // Finding the next word of a text. Runs of bytes are passed eight at a time; behind them each byte is looked at.
+#![tactic(auto)]
 ghost use Rattle.std.specs.Prelude.{◌≡◌, ◌<◌, ◌≤◌, ◌+◌, length, drop, get_or};
 ghost use Rattle.words.specs.Words.{is_blank, start as start_of, ends, ends_word, ends_line};
 ghost use Rattle.finding.specs.Finding.{slash_by, ends_comment, ends_string, Sought, Passing, NextWord};
@@ -6,7 +7,7 @@ ghost use Rattle.finding.specs.Finding.{slash_by, ends_comment, ends_string, Sou
 use words::Start;
 
 // The next word, from a place to a place; the text's end; an end inside what is not closed.
-#[derive(Drop)]
+#[derive(Clone, Copy)]
 pub enum Next {
     Word(usize, usize),
     End,

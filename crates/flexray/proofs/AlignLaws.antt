@@ -2,7 +2,7 @@
 use Prim.Native.Nat.{ℕ, ◌+◌, ◌%◌, ◌<◌, ◌≤◌}
 use native.Mathlib.Omega.{arith}
 use mathlib.Core.Path.{◌≡◌, refl}
-use mathlib.Core.Bool.{Bool, true, false, ◌&&◌, ◌||◌, or_false, or_self}
+use mathlib.Core.Bool.{Bool, true, false, ◌&&◌, ◌||◌, or-false, or_self}
 use mathlib.Core.List.{List, [], ◌∷◌}
 use lib.Dec.{ltb, eqb}
 use Rattle.layout.proofs.TableLaws.{all-given}
@@ -18,8 +18,8 @@ few (a ∷ b ∷ c ∷ bs) = false
 
 among-few : (a : ℕ) (bs : List ℕ) → few bs ≡ true → among a bs ≡ (ltb 0 (first bs) && (eqb a (first bs) || eqb a (last bs)))
 among-few a [] e = refl
-among-few a (x ∷ []) e = simp (e, or_false, or_self)
-among-few a (x ∷ y ∷ []) e = simp (e, or_false)
+among-few a (x ∷ []) e = simp (e, or-false, or_self)
+among-few a (x ∷ y ∷ []) e = simp (e, or-false)
 among-few a (x ∷ y ∷ z ∷ bs) e = cc
 
 pub among-header : (n a : ℕ)

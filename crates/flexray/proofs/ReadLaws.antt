@@ -2,7 +2,7 @@
 use Prim.Native.Nat.{ℕ, zero, suc, ◌+◌, ◌%◌, ◌<◌, ◌≤◌}
 use native.Mathlib.Omega.{arith}
 use mathlib.Core.Path.{◌≡◌, refl}
-use mathlib.Core.Bool.{Bool, true, false, cond, not, ◌||◌, or_true}
+use mathlib.Core.Bool.{Bool, true, false, cond, not, ◌||◌, or-true}
 use mathlib.Core.List.{List}
 use lib.ListN.{length, drop}
 use lib.Dec.{ltb, eqb}
@@ -93,7 +93,7 @@ module _ (s : Setting) (t : List ℕ) where
   unfolding judged
   judged-is (unsound e) = rw e
   judged-is (odd e h) = rw (e, eq-eqb (length t % 2) 1 h)
-  judged-is (long e h) = rw (e, lt-ltb s.ceiling (length t) h, or_true)
+  judged-is (long e h) = rw (e, lt-ltb s.ceiling (length t) h, or-true)
   judged-is (short e v h) = rw (e, of_length v.even v.most, lt-ltb (length t) (H s + 1) h)
   judged-is (other e v h x) =
       rw (e, of_length v.even v.most, le-ltb (length t) (H s + 1) h, ne_eqb (says NAX (fields s) t 0) s.node x)

@@ -1,4 +1,5 @@
 // FlexRay nodes: their settings, and their headers with the alignments that go with them.
+#![tactic(auto)]
 ghost use Rattle.std.specs.Prelude.{◌≡◌};
 ghost use Rattle.flexray.specs.Formula.{Roomy, made as made_of, filled as filled_of, paired as paired_of};
 ghost use Rattle.flexray.specs.Setting.{header as header_of};
@@ -8,7 +9,7 @@ use layout::{Shape, pick};
 
 // Node, direction, frame ceiling F, header type, packet alignment A.
 #[repr(C)]
-#[derive(Drop)]
+#[derive(Clone, Copy)]
 pub struct Setting {
     pub node: u32,
     pub direction: u32,
@@ -23,7 +24,7 @@ impl Setting {
 }
 
 // A header, and its alignments by the least and the most: it has at most two; 0, 0 where it has none.
-#[derive(Drop)]
+#[derive(Clone, Copy)]
 pub struct Entry {
     pub shape: Shape,
     pub least: u32,

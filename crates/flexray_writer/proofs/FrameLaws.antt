@@ -3,7 +3,7 @@ use Prim.Native.Nat.{ℕ, suc, ◌+◌, ◌-◌, ◌<◌, ◌≤◌}
 use native.Mathlib.Omega.{arith}
 use native.Mathlib.Nat.{zero-add, sub-zero, mod-eq_of_lt, mod_self}
 use mathlib.Core.Path.{◌≡◌, refl, sym, ap, ◌∙◌}
-use mathlib.Core.Bool.{true, cond, or_true, or_false}
+use mathlib.Core.Bool.{true, cond, or-true, or-false}
 use mathlib.Core.List.{List, [], ◌∷◌, ◌++◌, append-nil, append_assoc}
 use lib.ListN.{length, take, drop, replicate, length-append, length-drop, length-take}
 use lib.Seq.{sets}
@@ -62,7 +62,7 @@ module _ {p : Plan} (k : Ready p) where
       let e : ℕ = start p.align a.q + n in
       let past : ltb 255 n ≡ true → ltb p.datapacket e ≡ true =
       λ g. lt-ltb p.datapacket e (omega (arith, ltb-true 255 n g, k.ceiling-most)) in
-      rw (spot-next a n) (by_test (ltb 255 n) (λ g. rw (g, past g, or_true (eqb n 0))) (λ g. rw (g, or_false)))
+      rw (spot-next a n) (by_test (ltb 255 n) (λ g. rw (g, past g, or-true (eqb n 0))) (λ g. rw (g, or-false)))
 
   index_behind : (a : At) (ns : List ℕ) → first_of (misfit_of (setting p)) (spans_behind p.align a.q ns) ≡ misfit_at f a ns
   unfolding first_of misfit_at spans_behind

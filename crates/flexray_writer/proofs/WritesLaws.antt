@@ -3,7 +3,7 @@ use Prim.Native.Nat.{ℕ, ◌+◌, ◌-◌, ◌%◌, ◌<◌, ◌≤◌}
 use borrow.Author.Rules.{rules}
 use native.Mathlib.Omega.{arith}
 use mathlib.Core.Path.{◌≡◌, refl, sym, ap, ◌∙◌}
-use mathlib.Core.Bool.{Bool, true, false, ◌||◌, or_true, or_false}
+use mathlib.Core.Bool.{Bool, true, false, ◌||◌, or-true, or-false}
 use mathlib.Core.List.{List, ◌∷◌, ◌++◌}
 use lib.ListN.{length, get_or, take, drop, length-append}
 use lib.Seq.{sets}
@@ -191,7 +191,7 @@ module _ (p : Plan) (b : Begin) (bs ns out : List ℕ) where
           (weighed_so
           ∙ L.unmatched w out (ready t.ready (sym e ∙ f))
           (by_test (ltb most_lengths (length ns)) (λ g. rw (M.many ns bs (ltb-true most_lengths (length ns) g)))
-          (λ g. rw (rw g at (sym i ∙ j), or_true))))
+          (λ g. rw (rw g at (sym i ∙ j), or-true))))
 
     -- by the sizes
     module _ (k : Counted p b ns) {f : Plan} (d : f ≡ further_of p) {z : Sized} (x : SizedAs f b.q ns z) where
@@ -199,7 +199,7 @@ module _ (p : Plan) (b : Begin) (bs ns out : List ℕ) where
       unfit l =
           gives_so
           (weighed_so
-          ∙ M.unfit w out ns bs (ready k.begun.ready k.held) (rw (k.counts, or_false (mismatched ns bs)))
+          ∙ M.unfit w out ns bs (ready k.begun.ready k.held) (rw (k.counts, or-false (mismatched ns bs)))
           (index_is k.begun ns ∙ sym (rw d at x).taken) l)
 
       pub unlike : length ns ≤ z.taken → (z.sum ≡ length bs → ⊥) → Gives (write_refused out 2 0) r new → Gives answer r new

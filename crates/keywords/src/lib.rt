@@ -1,4 +1,5 @@
 // What a word of a description file says.
+#![tactic(auto)]
 ghost use Rattle.std.specs.Prelude.{◌≡◌, ◌≤◌, length};
 ghost use Rattle.std.proofs.Math.Seq.{slice};
 ghost use Rattle.words.specs.Words.{same as same_text};
@@ -8,14 +9,14 @@ ghost use Rattle.keywords.specs.Saying.{meaning, told, Tells, Lined};
 ghost use Rattle.keywords.specs.Counting.{hexadecimal as hexadecimal_of, Base};
 
 // The two endpoints: CMD and STIM, from the master; RES, ERR, DAQ, EV and SERV, from the slave.
-#[derive(Drop)]
+#[derive(Clone, Copy)]
 pub enum Side {
     Cmd,
     Res,
 }
 
 // A kind of word: /begin, XCP_ON_USB, a number, or a word of an enumeration.
-#[derive(Drop)]
+#[derive(Clone, Copy)]
 pub enum Kind {
     Begin,
     Block,
@@ -27,7 +28,7 @@ pub enum Kind {
 }
 
 // What a word says, asked as a word of a kind.
-#[derive(Drop)]
+#[derive(Clone, Copy)]
 pub enum Meant {
     Nothing,
     Value(u32),

@@ -1,4 +1,6 @@
 // Headers, and numbers in their fields, low byte first; alignment; and how tests are joined.
+#![tactic(auto)]
+
 ghost use Rattle.std.specs.Prelude.{◌≡◌, cond, ◌&&◌, ◌||◌, ◌<◌, min};
 ghost use Rattle.std.proofs.lemmas.List.Edits.{sets};
 ghost use Rattle.layout.specs.Field.{bytes};
@@ -6,7 +8,7 @@ ghost use Rattle.layout.specs.Leaf.{Within, Number};
 ghost use Rattle.layout.specs.Multiple.{Roundable, Rounded};
 
 // A header: its size, and the places and widths of LEN and CTR. The width is 0 where it has no such field.
-#[derive(Drop)]
+#[derive(Clone, Copy)]
 pub struct Shape {
     pub size: usize,
     pub lenat: usize,

@@ -1,4 +1,5 @@
 // Callers of the readers with the state lent. Each holds a state, lends it for the call, and gives it back as the call left it.
+#![tactic(auto)]
 ghost use Rattle.flexray.specs.Reading.{read_of as flexray_read_of};
 ghost use Rattle.udp.specs.Reading.{read_of as udp_read_of};
 ghost use Rattle.usb.specs.Reading.{read_of as usb_read_of};
@@ -8,7 +9,7 @@ use lent::Told;
 use packet::Counter;
 
 // What a call with the state lent tells, and the state that it leaves.
-#[derive(Drop)]
+#[derive(Clone, Copy)]
 pub struct Lent {
     pub told: Told,
     pub state: Counter,

@@ -1,6 +1,7 @@
 // Writes 4,096 packets as a transfer of 262,144 bytes, the longest there is, in each packing, and reads it back. Prints a line for each: packing;
 // bytes and next counter, or a refusal's number and place; row count, or the same; the last row; and 1 if the rows' parts are the packets.
 // A transfer that is longer by one byte is refused.
+#![tactic(auto)]
 use check::same;
 use libc::STDOUT_FILENO;
 use packet::{Counter, Reading, Writing, part};

@@ -1,6 +1,7 @@
 // Reading by a plan, where each packet has a header of its own: an input is judged, the room is checked, and the rows are given. Two functions do it,
 // each told the layout apart from the plan: whoever says it by a literal gets a copy from the compiler that has only this layout. One function that does
 // both would be too dear to be copied.
+#![tactic(auto)]
 ghost use Rattle.std.specs.Prelude.{◌≡◌, length};
 ghost use Rattle.packet.specs.Answer.{Gives};
 ghost use Rattle.plan.specs.Plan.{Messages};

@@ -1,5 +1,6 @@
 // Writing by a plan, where each packet has a header of its own: an output is sized, inputs and room are checked, and it is written. Two functions do
 // it, each told the layout apart from the plan: whoever says it by a literal gets a copy from the compiler that has only this layout.
+#![tactic(auto)]
 ghost use Rattle.std.specs.Prelude.{◌≡◌, length};
 ghost use Rattle.packet.specs.Answer.{Gives};
 ghost use Rattle.plan.specs.Plan.{Messages};
@@ -16,7 +17,7 @@ use sizing::{Sized, size_loop};
 use writing::{Begin, put_loop, put_rest};
 
 // What is told of lengths before packets are looked at: their sizes, or the refusal's number.
-#[derive(Drop)]
+#[derive(Clone, Copy)]
 pub enum Weighed {
     Sizes(Sized),
     Refused(u32),

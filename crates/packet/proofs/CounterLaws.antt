@@ -1,7 +1,7 @@
 -- Counters over their width. The gap is the one number below the counter's size that, added to the expected counter, comes to the received one.
 use Rattle.std.proofs.Common.{◌≡◌, ℕ, zero, suc, ◌+◌, ◌-◌, ◌%◌, ◌^◌, ◌<◌, ◌≤◌, Bool, true, false, cond, ◌||◌, eqb, ltb, List, sym, refl, ◌∙◌, add-zero, mod-lt, mod-eq_of_lt, zero-add, arith, ltb-false, ltb-true, lt-ltb, ne_eqb, eqb-true}
 use native.Mathlib.Nat.{add-mod_right, mod-add-mod}
-use mathlib.Core.Bool.{or_true}
+use mathlib.Core.Bool.{or-true}
 use borrow.Author.Tests.{eqb-false}
 use Rattle.layout.specs.Field.{Field, width, says, values, puts, Name.CTR}
 use Rattle.layout.proofs.FieldLaws.{says-puts}
@@ -88,7 +88,7 @@ exceeds_known w s e =
 -- without CTR every state is valid
 pub valid_without : (s : Counter) → valid 0 s ≡ true
 unfolding valid
-valid_without s = or_true (eqb s.known 0)
+valid_without s = or-true (eqb s.known 0)
 
 pub not_valid : (w : ℕ) (s : Counter) → 0 < s.known → Exceeds w s.expected → valid w s ≡ false
 unfolding valid

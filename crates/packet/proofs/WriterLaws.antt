@@ -1,6 +1,6 @@
 -- Why a writer refuses, and why it accepts: by its setting and counter, by its lengths, and by its output.
 use Rattle.std.proofs.Common.{◌≡◌, ℕ, ◌<◌, ◌≤◌, min, Bool, true, false, cond, not, ◌&&◌, ltb, List, length, take, drop, refl, ap, arith, ltb-false, ltb-true, le-ltb, lt-ltb}
-use mathlib.Core.Bool.{and_false}
+use mathlib.Core.Bool.{and-false}
 use lib.Seq.{sets}
 use Rattle.layout.specs.Walk.{Out, Out.list, Out.refused}
 use Rattle.layout.proofs.TestLaws.{Tells, Tells.passes, Tells.fails, why_passed, why_failed, passed, failed}
@@ -59,7 +59,7 @@ data Weighed (w : Call) : Out ℕ → Type 0 where
 weighs : (w : Call) {o : Out ℕ} → Weighed w o → composed w ≡ o
 unfolding weighed
 weighs w (Weighed.unsound e) = rw e
-weighs w (Weighed.over e) = rw (e, and_false w.sound)
+weighs w (Weighed.over e) = rw (e, and-false w.sound)
 weighs w (Weighed.mismatched r e) = rw (r.setting, r.counter, e)
 weighs w (Weighed.misfit r e l) = rw (r.setting, r.counter, e, lt-ltb w.index w.count l)
 weighs w (Weighed.fit r e l) = rw (r.setting, r.counter, e, le-ltb w.index w.count l)

@@ -1,4 +1,6 @@
 // What every transport shares: a message that was found, the counter state, kinds, parts of an input, and the answers.
+#![tactic(auto)]
+
 ghost use Rattle.std.specs.Prelude.{◌≡◌, ◌<◌, length};
 ghost use Rattle.packet.specs.Counter.{difference, fresh};
 ghost use Rattle.packet.specs.Kind.{slave, master, kind_from, kind_of};
@@ -6,21 +8,21 @@ ghost use Rattle.packet.specs.Part.{part_of, check_of};
 
 // The counter expected next, where known is not 0; the state is fresh where it is.
 #[repr(C)]
-#[derive(Drop)]
+#[derive(Clone, Copy)]
 pub struct Counter {
     pub known: u32,
     pub expected: u32,
 }
 
 // A place of an input, and the end of the data packet, frame or datagram in which it stands.
-#[derive(Drop)]
+#[derive(Clone, Copy)]
 pub struct At {
     pub q: usize,
     pub end: usize,
 }
 
 // A message: its packet's place and length, and its counter, 0 where it carries none.
-#[derive(Drop)]
+#[derive(Clone, Copy)]
 pub struct Found {
     pub at: usize,
     pub len: usize,
@@ -28,7 +30,7 @@ pub struct Found {
 }
 
 // What stands at a place: a message or a rest, with the place behind it; a refusal's number and place.
-#[derive(Drop)]
+#[derive(Clone, Copy)]
 pub enum Seen {
     Nothing,
     Message(Found, At),
@@ -36,7 +38,7 @@ pub enum Seen {
     Refused(u32, usize),
 }
 
-#[derive(Drop)]
+#[derive(Clone, Copy)]
 pub struct Row {
     pub place: u32,
     pub length: u32,
@@ -46,21 +48,21 @@ pub struct Row {
 }
 
 // What a reader answers: the row count and the state behind them, or a refusal's number and place.
-#[derive(Drop)]
+#[derive(Clone, Copy)]
 pub enum Reading {
     Rows(u32, Counter),
     Refused(u32, u32),
 }
 
 // What a writer answers: the bytes written and the next counter, or a refusal's number and place.
-#[derive(Drop)]
+#[derive(Clone, Copy)]
 pub enum Writing {
     Bytes(u32, u32),
     Refused(u32, u32),
 }
 
 // Whether a part lies inside its input: if not, the refusal's number and place.
-#[derive(Drop)]
+#[derive(Clone, Copy)]
 pub enum Checked {
     Inside,
     Refused(u32, u32),

@@ -1,5 +1,6 @@
 // Reading over a block: the words and paired blocks inside it, up to its end. The names of the open blocks are held in a table, two numbers for
 // each: where the name starts and where it ends in the text.
+#![tactic(auto)]
 ghost use Rattle.std.specs.Prelude.{◌≡◌, ◌+◌, ◌<◌, ◌≤◌, length};
 ghost use Rattle.std.proofs.Math.Seq.{slice};
 ghost use Rattle.words.specs.Words.{same as same_text};
@@ -11,7 +12,7 @@ use finding::{Next, next_word};
 use words::same;
 
 // The next word, from a place to a place: /begin, /end or another; or the place where the text stops.
-#[derive(Drop)]
+#[derive(Clone, Copy)]
 pub enum Sign {
     Begin(usize, usize),
     End(usize, usize),
@@ -20,7 +21,7 @@ pub enum Sign {
 }
 
 // A place behind words that were read over, and how many blocks are open there; or the place that is wrong.
-#[derive(Drop)]
+#[derive(Clone, Copy)]
 enum Turn {
     On(usize, usize),
     Wrong(usize),

@@ -3,7 +3,7 @@ use Prim.Native.Nat.{ℕ, ◌+◌, ◌-◌, ◌*◌, ◌/◌, ◌%◌, ◌<◌, 
 use native.Mathlib.Omega.{arith}
 use native.Mathlib.Nat.{mod-lt, add-mod_right, div-add-mod', add-mul, one-mul, mul-mod_left, lt_of_mul-lt-mul_right}
 use mathlib.Core.Path.{◌≡◌, refl, ap, ◌∙◌}
-use mathlib.Core.Bool.{true, cond, or_true}
+use mathlib.Core.Bool.{true, cond, or-true}
 use lib.Dec.{ltb, eqb}
 use borrow.Author.Tests.{lt-ltb, le-ltb, eq-eqb, eqb-true, eqb-false}
 use Rattle.layout.proofs.MultipleLaws.{pad_less}
@@ -79,7 +79,7 @@ module _ (p : Plan) where
   -- data packets may end with a rest in multiple packing and in a stream
   pub rests_true : 0 < p.layout → p.layout < 3 → rests p ≡ true
   rests_true l u =
-      by_less p.layout 2 (λ g. rw (eq-eqb p.layout 1 (omega arith))) (λ g. rw (eq-eqb p.layout 2 (omega arith), or_true))
+      by_less p.layout 2 (λ g. rw (eq-eqb p.layout 1 (omega arith))) (λ g. rw (eq-eqb p.layout 2 (omega arith), or-true))
 
   pub rests-some : rests p ≡ true → (0 < p.layout) × (p.layout < 3)
   rests-some e =

@@ -1,5 +1,6 @@
 // A plan for every transport: a setting's numbers with those of its header, worked out once; and places, by the layout's case. A layout is a
 // number: 0 single, 1 multiple, 2 streaming, 3 frame, 4 datagram. Whoever calls with literals gets a function of its own from the compiler.
+#![tactic(auto)]
 ghost use Rattle.std.specs.Prelude.{◌≡◌, ◌+◌, ◌≤◌};
 ghost use Rattle.plan.specs.Place.{Near, Beyond, Streaming, rests as rests_of, header_at, behind_at, streamed_at, packet_after, on_at};
 ghost use Rattle.plan.specs.Plan.{plan_of, most_of, Cased};
@@ -9,7 +10,7 @@ use packet::At;
 
 // What reading and writing need to know. A frame has no longest packet but what its LEN can say, its data packet is the frame ceiling, and only a
 // frame has a node. A datagram's data packet is the longest datagram: it has no other.
-#[derive(Drop)]
+#[derive(Clone, Copy)]
 pub struct Plan {
     pub layout: usize,
     pub header: u32,
@@ -24,7 +25,7 @@ pub struct Plan {
 }
 
 // The plan of a setting that is sound.
-#[derive(Drop)]
+#[derive(Clone, Copy)]
 pub enum Planned {
     Sound(Plan),
     Unsound,

@@ -1,4 +1,5 @@
 // The C interface: include/plumagemud.h declares these functions and structs. Wrappers only.
+#![tactic(auto)]
 ghost use Rattle.std.specs.Prelude.{◌≡◌, not, eqb};
 ghost use Rattle.packet.specs.Kind.{kind_of};
 ghost use Rattle.packet.specs.Part.{check_of};
@@ -19,7 +20,7 @@ use usb::Setting as Usb;
 
 // Number 0: value is the row count. Any other number: a refusal, value is its place, and counter is as it was given.
 #[repr(C)]
-#[derive(Drop)]
+#[derive(Clone, Copy)]
 pub struct ReadResult {
     pub number: u32,
     pub value: u32,
@@ -28,7 +29,7 @@ pub struct ReadResult {
 
 // Number 0: value is the bytes written and counter the next one. Any other number: value is the place, and counter is as it was given.
 #[repr(C)]
-#[derive(Drop)]
+#[derive(Clone, Copy)]
 pub struct WriteResult {
     pub number: u32,
     pub value: u32,
@@ -37,7 +38,7 @@ pub struct WriteResult {
 
 // Number 0: the part is inside.
 #[repr(C)]
-#[derive(Drop)]
+#[derive(Clone, Copy)]
 pub struct CheckResult {
     pub number: u32,
     pub place: u32,
@@ -45,7 +46,7 @@ pub struct CheckResult {
 
 // Number 0: both settings. Any other number: a refusal, place is its place, and the twelve numbers are 0.
 #[repr(C)]
-#[derive(Drop)]
+#[derive(Clone, Copy)]
 pub struct SettingsResult {
     pub number: u32,
     pub place: u32,

@@ -6,7 +6,7 @@
 use Prim.Native.Nat.{ℕ, ◌+◌, ◌*◌, ◌%◌, ◌^◌, ◌<◌, ◌≤◌}
 use native.Mathlib.Omega.{arith}
 use mathlib.Core.Path.{◌≡◌, refl}
-use mathlib.Core.Bool.{Bool, true, or_true}
+use mathlib.Core.Bool.{Bool, true, or-true}
 use mathlib.Core.Logic.{◌↔◌, ◌⊎◌}
 use mathlib.Core.List.{List, [], ◌∷◌, map}
 use lib.ListN.{length, take, drop}
@@ -217,7 +217,7 @@ gap_modulo w s c r v k h l b =
 
 pub gap-fresh : (w c : ℕ) → gap w fresh c ≡ 0
 unfolding gap
-gap-fresh w c = simp or_true
+gap-fresh w c = simp or-true
 
 -- the bytes are laid out as the packets given, at the front of the output: `Written` has them, the counters and the places
 module _ (s : UsbSetting.Setting) (bs ns : List ℕ) (c fill : ℕ) (full : Bool) (out : List ℕ) {k d : ℕ} {left : List ℕ}

@@ -2,7 +2,7 @@
 use Prim.Native.Nat.{ℕ, ◌+◌, ◌≤◌, min}
 use native.Mathlib.Omega.{arith}
 use mathlib.Core.Path.{◌≡◌, refl, sym, ◌∙◌}
-use mathlib.Core.Bool.{Bool, true, false, cond, not, ◌&&◌, ◌||◌, or_true}
+use mathlib.Core.Bool.{Bool, true, false, cond, not, ◌&&◌, ◌||◌, or-true}
 use mathlib.Core.List.{List}
 use lib.ListN.{length}
 use lib.Dec.{leb, eqb}
@@ -43,7 +43,7 @@ module _ {p : Plan} {t : List ℕ} {a : At} where
       let g = le-leb (head p t a + p.size) a.end (omega (arith, s.fits)) in
       record {
         inside = λ y. omega (arith, s.fits);
-        len_is = rw (g, or_true) (sym s.is);
+        len_is = rw (g, or-true) (sym s.is);
         is = by_test (rests p) (λ r. rw (r, z) e) (λ r. rw r e);
         says = λ y. s;
       }

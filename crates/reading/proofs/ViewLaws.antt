@@ -2,7 +2,7 @@
 use Prim.Native.Nat.{ℕ, ◌+◌, ◌<◌, ◌≤◌, min}
 use native.Mathlib.Omega.{arith}
 use mathlib.Core.Path.{◌≡◌}
-use mathlib.Core.Bool.{false, not, ◌&&◌, ◌||◌, or_true}
+use mathlib.Core.Bool.{false, not, ◌&&◌, ◌||◌, or-true}
 use mathlib.Core.List.{List}
 use lib.ListN.{length}
 use lib.Dec.{leb, ltb, eqb}
@@ -59,7 +59,7 @@ module _ (p : Plan) (t : List ℕ) (a : At) where
       (λ s. rw (r, e, eq-eqb p.layout 4 i, s) (zeroed i n (ltb-false _ _ s)))))
       (λ e. rw (r, e)
       (nothing n (λ l u. ltb-false _ _ (rw (rests_true p l u) at r)) (λ h. ltb-false _ _ (rw (eq-eqb p.layout 0 h) at e))
-      (λ h. ltb-false _ _ (rw (eq-eqb p.layout 4 h, or_true) at e)))))
+      (λ h. ltb-false _ _ (rw (eq-eqb p.layout 4 h, or-true) at e)))))
 
   said : Says p t a → View (message_by (not (eqb p.layout 3) && ltb p.longest (len p t a)) (ltb (limit p t a) (next p t a))
       (head p t a) (there p t a) (next_at p t a))

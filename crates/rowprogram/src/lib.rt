@@ -1,4 +1,5 @@
 // The program's work: standard input is read as a U1 transfer, and its rows, or its refusal, are written to standard output at once.
+#![tactic(auto)]
 use rowtext::report;
 use standard::{Input, read_input, tell, write_output};
 

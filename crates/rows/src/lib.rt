@@ -1,5 +1,6 @@
 // What every transport's reader does with a message it found: its gap, the counter state behind it, and its row in the lent table; and how it
 // refuses.
+#![tactic(auto)]
 ghost use Rattle.std.specs.Prelude.{◌≡◌, ◌+◌, ◌*◌, ◌≤◌, length, ltb};
 ghost use Rattle.std.proofs.lemmas.List.Edits.{sets};
 ghost use Rattle.packet.specs.Answer.{Gives, read_refused};
@@ -14,7 +15,7 @@ use layout::either;
 use packet::{Counter, Found, Reading, Row, gap8, gap16, kind_of};
 
 // How many rows an input has, or its first refusal.
-#[derive(Drop)]
+#[derive(Clone, Copy)]
 pub enum Judged {
     Rows(usize),
     Refused(u32, usize),

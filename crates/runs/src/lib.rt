@@ -1,9 +1,10 @@
 // Runs of bytes in a text, passed eight or four at a time. The last bytes of a run, too few for that, are the caller's.
+#![tactic(auto)]
 ghost use Rattle.std.specs.Prelude.{◌≡◌, ◌≤◌, ◌+◌, length, drop, take};
 ghost use Rattle.runs.specs.Runs.{eight, some, under, equal, other, Run};
 
 // Eight bytes that stand one behind another. All are read before one is tested, so that they can be tested as one.
-#[derive(Drop)]
+#[derive(Clone, Copy)]
 struct Eight(u8, u8, u8, u8, u8, u8, u8, u8);
 
 fn eight_at(t: &[u8], k: usize) -> Eight

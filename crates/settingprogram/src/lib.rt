@@ -1,5 +1,6 @@
 // The program's work: the longest packet is taken from the argument and the block from standard input, and both settings, or the refusal, are written to
 // standard output at once.
+#![tactic(auto)]
 use keywords::Meant;
 use settingtext::{argument, report};
 use standard::{Input, read_input, tell, write_output};

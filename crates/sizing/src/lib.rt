@@ -1,5 +1,6 @@
 // Where messages come to stand, and the size of what is to be written, once for every layout: 0 single, 1 multiple, 2 streaming, 3 frame, 4 datagram.
 // Whoever calls the loop says its case by literals, and the compiler makes a loop for each.
+#![tactic(auto)]
 ghost use Rattle.std.specs.Prelude.{◌≡◌};
 ghost use Rattle.plan.specs.Place.{Streaming};
 ghost use Rattle.plan.specs.Plan.{Cased};
@@ -11,14 +12,14 @@ use packet::At;
 use plan::{Plan, behind, cased, header, streamed};
 
 // Where a message comes to stand, and the place behind it.
-#[derive(Drop)]
+#[derive(Clone, Copy)]
 pub struct Spot {
     pub from: usize,
     pub next: At,
 }
 
 // How many lengths fit, their sum, and the place behind them.
-#[derive(Drop)]
+#[derive(Clone, Copy)]
 pub struct Sized {
     pub taken: usize,
     pub sum: usize,

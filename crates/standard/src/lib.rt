@@ -1,12 +1,13 @@
 // Standard input read to its end, and standard output written at once. There is no exit status, so what cannot be read or written is told in a line on
 // standard error.
+#![tactic(auto)]
 ghost use Rattle.std.specs.Prelude.{◌≡◌, length};
 ghost use Rattle.standard.specs.Input.{input_of, Held};
 
 use libc::{STDERR_FILENO, STDIN_FILENO, STDOUT_FILENO};
 
 // So many bytes at the front of a buffer; or a read failed.
-#[derive(Drop)]
+#[derive(Clone, Copy)]
 pub enum Input {
     Bytes(usize),
     Failed,

@@ -1,5 +1,6 @@
 // Reads the texts of data/cases.bin and writes what xcpsettings prints of each. Both files, the texts and the lines in `stdout`, come from a
 // second reading of document 01 and Ask 1 (oracle/), whose src/record.rs says how a text and its lines are written.
+#![tactic(auto)]
 ghost use Rattle.std.specs.Prelude.{◌<◌};
 
 use keywords::Meant;

@@ -1,4 +1,5 @@
 // UDP: settings, and the plan of one.
+#![tactic(auto)]
 ghost use Rattle.std.specs.Prelude.{◌≡◌};
 ghost use Rattle.udp.specs.Plan.{plan_of};
 ghost use Rattle.udp.specs.Setting.{sound as sound_of};
@@ -8,7 +9,7 @@ use plan::{Plan, joined};
 
 // Longest packet X, direction.
 #[repr(C)]
-#[derive(Drop)]
+#[derive(Clone, Copy)]
 pub struct Setting {
     pub longest: u32,
     pub direction: u32,

@@ -2,7 +2,7 @@
 use Prim.Native.Nat.{ℕ, ◌+◌, ◌-◌}
 use native.Mathlib.Nat.{sub_self}
 use mathlib.Core.Path.{◌≡◌, refl}
-use mathlib.Core.Bool.{false, or_false, ◌||◌}
+use mathlib.Core.Bool.{false, or-false, ◌||◌}
 use mathlib.Core.List.{List, [], ◌∷◌, append-nil}
 use lib.ListN.{length}
 use lib.Dec.{eqb, ltb}
@@ -27,7 +27,7 @@ module _ (s : Setting) where
   pub index_is : (a : At) (ns : List ℕ) → first_of (misfit s) ns ≡ misfit_at (plan_of s) a ns
   unfolding first_of misfit_at misfit
   index_is a [] = refl
-  index_is a (n ∷ ns) = rw (or_false (eqb n 0 || ltb s.longest n), index_is (spot (plan_of s) a n).next ns)
+  index_is a (n ∷ ns) = rw (or-false (eqb n 0 || ltb s.longest n), index_is (spot (plan_of s) a n).next ns)
 
   -- a message stands where the one before it ends
   from_is : (a : At) (n : ℕ) → (spot (plan_of s) a n).from ≡ a.q

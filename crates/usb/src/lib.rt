@@ -1,4 +1,5 @@
 // USB endpoints: their settings, and the shapes of their headers.
+#![tactic(auto)]
 ghost use Rattle.std.specs.Prelude.{◌≡◌, ◌≤◌};
 ghost use Rattle.layout.specs.Field.{shape as shape_of};
 ghost use Rattle.usb.specs.Formula.{spread as spread_of};
@@ -8,7 +9,7 @@ use layout::{Shape, pick};
 
 // Header type, packing, alignment A, data packet size M, longest packet X, direction.
 #[repr(C)]
-#[derive(Drop)]
+#[derive(Clone, Copy)]
 pub struct Setting {
     pub header: u32,
     pub packing: u32,
@@ -19,7 +20,7 @@ pub struct Setting {
 }
 
 // What is to be done at a place.
-#[derive(Drop)]
+#[derive(Clone, Copy)]
 pub enum Verdict {
     Stop,
     TakeRest,

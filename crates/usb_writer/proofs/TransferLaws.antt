@@ -3,7 +3,7 @@ use Prim.Native.Nat.{ℕ, ◌+◌, ◌-◌, ◌%◌, ◌<◌, min}
 use native.Mathlib.Omega.{arith}
 use native.Mathlib.Nat.{mod-lt}
 use mathlib.Core.Path.{◌≡◌, refl, sym, ◌∙◌}
-use mathlib.Core.Bool.{Bool, true, false, cond, ◌&&◌, ◌||◌, or_false}
+use mathlib.Core.Bool.{Bool, true, false, cond, ◌&&◌, ◌||◌, or-false}
 use mathlib.Core.List.{List, [], ◌∷◌, ◌++◌, append_assoc}
 use lib.ListN.{length, take, drop, length-drop, length-take}
 use lib.Seq.{take_all}
@@ -69,7 +69,7 @@ module _ {p : Plan} (k : Ready p) where
       most = min p.longest (p.datapacket - p.size)
 
       at : (l : Bool) → ltb (cond l most p.longest) n ≡ (ltb p.longest n || (l && ltb p.datapacket w))
-      at false = sym (or_false (ltb p.longest n))
+      at false = sym (or-false (ltb p.longest n))
       at true =
           by_less p.longest n (λ g. rw (lt-ltb p.longest n g, lt-ltb most n (omega arith)))
           (λ g. by_less p.datapacket (p.size + n)
@@ -78,7 +78,7 @@ module _ {p : Plan} (k : Ready p) where
 
   misfit-is : (a : At) (n : ℕ) → U.misfit (setting p) n ≡ misfit p a n
   unfolding U.misfit
-  misfit-is a n = rw (no_frame, or_false (eqb n 0 || ltb (limit_of p) n), limited n) (at (eqb n 0))
+  misfit-is a n = rw (no_frame, or-false (eqb n 0 || ltb (limit_of p) n), limited n) (at (eqb n 0))
     where
       at : (b : Bool) → (b || ltb p.longest n) || (ltb p.layout 2 && ltb p.datapacket (whole (setting p) n))
           ≡ b || (ltb p.longest n || (ltb p.layout 2 && ltb p.datapacket (whole (setting p) n)))

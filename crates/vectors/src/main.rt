@@ -1,5 +1,6 @@
 // Runs the cases of data/cases.bin and writes a line for each. Both files, the cases and the lines in `stdout`, come from a second
 // reading of document 01 and of Ask 3 (oracle/), whose src/record.rs says how a case and a line are written.
+#![tactic(auto)]
 ghost use Rattle.std.specs.Prelude.{◌<◌, ◌≤◌, length};
 
 use lending::Lent;
@@ -9,7 +10,7 @@ use packet::{Checked, Counter, Reading, Writing};
 use std::num::wrapping_add_usize as plus;
 
 // The five numbers of a line.
-#[derive(Drop)]
+#[derive(Clone, Copy)]
 struct Line {
     number: u64,
     first: u64,
@@ -19,7 +20,7 @@ struct Line {
 }
 
 // Where a run ends: in the body, and in what it is put into.
-#[derive(Drop)]
+#[derive(Clone, Copy)]
 struct End {
     body: usize,
     out: usize,

@@ -1,10 +1,12 @@
 // How a text parts into words.
+#![tactic(auto)]
+
 ghost use Rattle.std.specs.Prelude.{◌≡◌, ◌≤◌, length};
 ghost use Rattle.std.proofs.Math.Seq.{slice};
 ghost use Rattle.words.specs.Words.{same as same_text};
 
 // What starts at a place.
-#[derive(Drop)]
+#[derive(Clone, Copy)]
 pub enum Start {
     Nothing,
     Blank,

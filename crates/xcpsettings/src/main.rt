@@ -1,3 +1,4 @@
+#![tactic(auto)]
 fn main() {
     settingprogram::run();
 }
