@@ -3,4 +3,4 @@ use Rattle.packet.proofs.CounterLaws.{difference_only}
 use Rattle.packet.proofs.gap16.Goals as goal
 
 pub returns : goal.returns
-returns c = difference_only 2 _ _ _ (search rules) (search rules) c.wrapping_sub_u16.ensures
+returns c = difference_only 2 _ _ _ (search rules) (search rules) c.wrapping_sub_u16.ensures.value
