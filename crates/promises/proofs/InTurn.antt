@@ -98,8 +98,8 @@ module _ (s : Setting) where
     laid-some (frame h b f g) = omega arith
 
     -- a frame with the counter that is due: its rows show no gap, and behind it that counter as its packets move it is expected
-    one : {c : ℕ} {e : Counter} {t left : List ℕ} {r : Reading} (rows : List ℕ) (ms : List Msg) → c < 256 → Frame s ms t → ((m : Msg) → (get_or ms 0 m).ctr ≡ c)
-        → Due e c → Reads s t e rows r left → 5 * length ms ≤ length rows
+    one : {c : ℕ} {e : Counter} {t left : List ℕ} {r : Reading} (rows : List ℕ) (ms : List Msg) → c < 256 → Frame s ms t
+        → ((m : Msg) → (get_or ms 0 m).ctr ≡ c) → Due e c → Reads s t e rows r left → 5 * length ms ≤ length rows
         → (r ≡ R.Rows (length ms) (record { known = 1; expected = (c + moved (length ms)) % 256 }))
         × ((i : ℕ) → i < length ms → get_or left (5 * i + 3) 1 ≡ 0)
     one rows [] l f n due call room = absurd (omega (arith, laid-some f.laid))
