@@ -205,17 +205,11 @@ def turn(crate, name, folder, fn):
             changed = fn.changed[at] if fn.loops else []
             m = re.search(rf"(?m)^{re.escape(key)} ([^=]*)=\s?(.*)$", code, re.S)
             params, body = m.group(1).split(), m.group(2)
-            want = [("l." + v) for v, c in zip(live, changed) if not c]
-            order = [v for v, c in zip(live, changed) if not c] + [v for v, c in zip(live, changed) if c] * 2
-            # unchanged ones and those at the start come first, in the order of live, then those now
+            # each as it was at the loop's start, and then those that it changes as they are now
             first = [(v, "l.initial." + v if c else "l." + v) for v, c in zip(live, changed)]
             now = [(v, "l." + v) for v, c in zip(live, changed) if c]
-            vals = {}
-            plain = [x for x in first if not x[1].startswith("l.initial")]
-            initial = [x for x in first if x[1].startswith("l.initial")]
-            for p, (v, to) in zip(params, plain + initial + now):
-                vals[p] = to
-            if len(params) != len(plain + initial + now):
+            vals = {p: to for p, (v, to) in zip(params, first + now)}
+            if len(params) != len(first + now):
                 print(f"{name}: {key} has {params}, live {live} {changed}")
             body = re.sub(r"(?<![\w'.])[A-Za-z_][\w'₀]*", lambda m: vals.get(m.group(0), m.group(0)), body)
             out.append("\n".join(comment + [f"abbrev pub {new} : goal.{new}", f"{new} l = {body}"]))

@@ -1,5 +1,6 @@
 // What every transport's writer checks: its lengths against the bytes of its packets, and its room; and how it refuses.
 #![tactic(auto)]
+
 ghost use Rattle.std.specs.Prelude.{◌≡◌, ◌||◌, ◌<◌, ltb};
 ghost use Rattle.packet.specs.Answer.{Gives, write_refused};
 ghost use Rattle.packet.specs.Limit.{Short};

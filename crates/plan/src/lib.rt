@@ -1,6 +1,7 @@
 // A plan for every transport: a setting's numbers with those of its header, worked out once; and places, by the layout's case. A layout is a
 // number: 0 single, 1 multiple, 2 streaming, 3 frame, 4 datagram. Whoever calls with literals gets a function of its own from the compiler.
 #![tactic(auto)]
+
 ghost use Rattle.std.specs.Prelude.{◌≡◌, ◌+◌, ◌≤◌};
 ghost use Rattle.plan.specs.Place.{Near, Beyond, Streaming, rests as rests_of, header_at, behind_at, streamed_at, packet_after, on_at};
 ghost use Rattle.plan.specs.Plan.{plan_of, most_of, Cased};

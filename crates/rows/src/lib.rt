@@ -1,6 +1,7 @@
 // What every transport's reader does with a message it found: its gap, the counter state behind it, and its row in the lent table; and how it
 // refuses.
 #![tactic(auto)]
+
 ghost use Rattle.std.specs.Prelude.{◌≡◌, ◌+◌, ◌*◌, ◌≤◌, length, ltb};
 ghost use Rattle.std.proofs.lemmas.List.Edits.{sets};
 ghost use Rattle.packet.specs.Answer.{Gives, read_refused};

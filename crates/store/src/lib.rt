@@ -1,5 +1,6 @@
 // Bytes put into a lent output: free bytes, a packet.
 #![tactic(auto)]
+
 ghost use Rattle.std.specs.Prelude.{◌≡◌, ◌++◌, ◌+◌, ◌≤◌, length, take, replicate};
 ghost use Rattle.std.proofs.lemmas.List.Edits.{sets};
 ghost use Rattle.store.specs.Store.{Inside, Short, Copyable, First, few, block, along};

@@ -1,0 +1,11 @@
+use native.Mathlib.Omega.{arith}
+use borrow.Author.Tests.{eq-eqb, ne_eqb}
+use Rattle.plan.proofs.behind.Goals as goal
+
+pub returns-then-p-eq3 : goal.returns-then-p-eq3
+returns-then-p-eq3 c = record { is = rw (eq-eqb _ 3 c.if-p-eq3.true); on = omega arith; small = omega arith }
+
+pub returns : goal.returns
+returns c =
+    let r = c.rounded.ensures in
+    record { is = rw (ne_eqb _ 3 c.if-p-eq3.false) r.is; on = omega (arith, r.is); small = r.small }
