@@ -1,5 +1,5 @@
 -- The writer's tests on the lengths it is given, as what they tell.
-use Prim.Native.Nat.{ℕ, suc}
+use Prim.Native.Nat.{ℕ, suc, ◌+◌}
 use native.Mathlib.Omega.{arith}
 use mathlib.Core.Path.{◌≡◌, refl, ap}
 use mathlib.Core.Bool.{Bool, true, false, not, ◌&&◌, ◌||◌}
@@ -11,7 +11,7 @@ use Rattle.layout.proofs.TestLaws.{Tells, Tells.passes, Tells.fails}
 use Rattle.packet.specs.Packets.{mismatched, Matched, Mismatch}
 use Rattle.packet.proofs.PacketsLaws.{mismatch_tells, not_both}
 use Rattle.flexray.specs.declared.Setting.{Setting}
-use Rattle.flexray.specs.Setting.{L}
+use Rattle.flexray.specs.Setting.{L, start}
 use Rattle.flexray.specs.Writing.{Span, spans_behind, spans, misfit, miscounted}
 use Rattle.flexray.specs.Refusal.{Fit, Unfit, Counted, Unfit.empty, Unfit.over}
 
@@ -36,7 +36,7 @@ module _ (s : Setting) (x : Span) where
 length-behind : (a e : ℕ) (ns : List ℕ) → length (spans_behind a e ns) ≡ length ns
 unfolding spans_behind
 length-behind a e [] = refl
-length-behind a e (n ∷ ns) = ap suc (length-behind a _ ns)
+length-behind a e (n ∷ ns) = ap suc (length-behind a (start a e + n) ns)
 
 pub length-spans : (s : Setting) (ns : List ℕ) → length (spans s ns) ≡ length ns
 unfolding spans

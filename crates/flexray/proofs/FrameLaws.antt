@@ -91,7 +91,7 @@ module _ (s : Setting) (fill : ℕ) where
   end-most e [] h f = h
   end-most e (b ∷ bs) h f = end-most (start A e + length b) bs f.0.most f.1
 
-further-length : {a e q : ℕ} {cs bs : List ℕ} {ms : List Msg} → Further a e cs q ms bs → q + length bs ≡ e + length cs
+further-length : {a e : ℕ} {cs : List ℕ} {q : ℕ} {bs : List ℕ} {ms : List Msg} → Further a e cs q ms bs → q + length bs ≡ e + length cs
 further-length here = refl
 further-length (next f b {bs = bs} l z k) = simp length-append (omega (arith, further-length k))
 
@@ -202,7 +202,7 @@ abbrev end_by : ℕ → List Msg → ℕ
 end_by e [] = e
 end_by e (m ∷ ms) = end_by (m.at + length m.packet) ms
 
-further-end : {a e q : ℕ} {cs bs : List ℕ} {ms : List Msg} → Further a e cs q ms bs → e ≡ end_by q ms
+further-end : {a e : ℕ} {cs : List ℕ} {q : ℕ} {bs : List ℕ} {ms : List Msg} → Further a e cs q ms bs → e ≡ end_by q ms
 further-end here = refl
 further-end (next f b l z k) = further-end k
 

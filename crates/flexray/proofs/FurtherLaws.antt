@@ -70,7 +70,7 @@ module _ (a : ℕ) (t : List ℕ) where
           rw (c, z) (zeroed f (drop (start a q) t) l)
       at false g = outside (drop q t) (rw length-drop (omega (arith, start-behind a q, leb-false (start a q) (length t) g)))
 
-pub further-on : {a e q : ℕ} {cs bs : List ℕ} {ms : List Msg} → Further a e cs q ms bs → q ≤ e
+pub further-on : {a e : ℕ} {cs : List ℕ} {q : ℕ} {bs : List ℕ} {ms : List Msg} → Further a e cs q ms bs → q ≤ e
 further-on here = omega arith
 further-on {a} (next {q = q} f b l z k) = omega (arith, start-behind a q, further-on k)
 
@@ -83,7 +83,7 @@ module _ (s : Setting) (t : List ℕ) where
   A = s.align
 
   -- from the layout to the steps
-  pub follow : {e q : ℕ} {cs bs : List ℕ} {ms : List Msg} → Further A e cs q ms bs → 0 < q → bs ≡ drop q t
+  pub follow : {e : ℕ} {cs : List ℕ} {q : ℕ} {bs : List ℕ} {ms : List Msg} → Further A e cs q ms bs → 0 < q → bs ≡ drop q t
       → Leads (step s t) e q ms × (cs ≡ drop e t)
   follow here h c = (stay, c)
   follow (next {q = q} f b {bs = bs} l z k) h c =

@@ -2,11 +2,10 @@
 use Prim.Native.Nat.{ℕ, zero, suc, ◌+◌, ◌*◌, ◌%◌, ◌<◌}
 use native.Mathlib.Omega.{arith}
 use mathlib.Core.Path.{◌≡◌, ◌∙◌}
-use mathlib.Core.List.{List, [], ◌∷◌}
+use mathlib.Core.List.{List, ◌∷◌}
 use lib.ListN.{length, get_or}
-use borrow.Author.Tests.{ne_eqb}
 use Rattle.packet.specs.declared.Counter.{Counter}
-use Rattle.packet.specs.Counter.{gap, later, advance}
+use Rattle.packet.specs.Counter.{gap, advance}
 use Rattle.packet.specs.Message.{Msg}
 use Rattle.packet.specs.Row.{row, table}
 use Rattle.packet.proofs.CounterLaws.{later-is}

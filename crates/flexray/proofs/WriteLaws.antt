@@ -17,7 +17,7 @@ use Rattle.packet.proofs.CounterLaws.{exceeds, not_held}
 use Rattle.packet.proofs.PacketsLaws.{packets_lengths, length-packets, fit-before, unfit-there, index_is, index_none, each}
 use Rattle.packet.proofs.WriterLaws.{Call, Unwritten, Written, why_written, wrote_front, writer}
 use Rattle.flexray.specs.declared.Setting.{Setting}
-use Rattle.flexray.specs.Setting.{H, L, W, moved, sound}
+use Rattle.flexray.specs.Setting.{H, L, W, moved, start, sound}
 use Rattle.flexray.specs.Layout.{Frame}
 use Rattle.flexray.specs.Writing.{spans, misfit, miscounted, frame, placed, placed_behind, shown, composed, write_of}
 use Rattle.flexray.specs.Refusal.{Fit, Counted, Willing, no_span, span, WriteRefusal, WriteAccept}
@@ -29,7 +29,7 @@ use Rattle.flexray.proofs.FrameLaws.{Fits, evening_fill, written, frame_shortest
 behind-packets : (a e : ℕ) (bs : List (List ℕ)) → map (λ m. m.packet) (placed_behind a e bs) ≡ bs
 unfolding placed_behind
 behind-packets a e [] = refl
-behind-packets a e (b ∷ bs) = ap (λ l. b ∷ l) (behind-packets a _ bs)
+behind-packets a e (b ∷ bs) = ap (λ l. b ∷ l) (behind-packets a (start a e + length b) bs)
 
 module _ (s : Setting) (fill c : ℕ) where
   pub written_packets : 0 < L s → (ps : List (List ℕ)) → map (λ m. m.packet) (placed s fill c ps) ≡ ps

@@ -1,5 +1,6 @@
 // FlexRay nodes: their settings, and their headers with the alignments that go with them.
 #![tactic(auto)]
+
 ghost use Rattle.std.specs.Prelude.{◌≡◌};
 ghost use Rattle.flexray.specs.Formula.{Roomy, made as made_of, filled as filled_of, paired as paired_of};
 ghost use Rattle.flexray.specs.Setting.{header as header_of};

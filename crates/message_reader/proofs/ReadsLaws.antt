@@ -7,7 +7,7 @@ use mathlib.Core.Bool.{Bool, true, false}
 use mathlib.Core.List.{List}
 use lib.ListN.{length}
 use lib.Dec.{ltb, eqb}
-use borrow.Author.Rules.{rules, zero≤}
+use borrow.Author.Rules.{rules}
 use borrow.Author.Tests.{ltb-true, ltb-false, lt-ltb, le-ltb, eq-eqb}
 use Rattle.packet.specs.declared.Counter.{Counter}
 use Rattle.packet.specs.declared.Reading.{Reading}
@@ -65,7 +65,7 @@ module _ {p : Plan} (k : Messages p) where
     pub packed : l ≤ 2 → p.layout < 3
     packed h = omega arith
 
-pub ruleset cases = (only, zero≤, le_antisymm, full-bytes, full-words, in_datagram, packed)
+pub ruleset cases = (only, le_antisymm, full-bytes, full-words, in_datagram, packed)
 
 ---- What is judged -------------------------------------------------------------------------------------------------------------
 

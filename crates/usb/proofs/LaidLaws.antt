@@ -90,7 +90,7 @@ module _ (s : Setting) (g : Good s) (t : List ℕ) where
       verdict (Rest.zeroed p y e) ls k z =
           Judged.bare (omega arith) p (len-fits s t q (omega arith) ∙ says_here LEN (fields s) q t r bs y c ∙ e)
 
-  pub leads : {p q : ℕ} {cs : List ℕ} {ms : List Msg} {bs : List ℕ} → Laid s p cs q ms bs → bs ≡ drop q t → Leads (step s t) p q ms
+  pub leads : {p : ℕ} {cs : List ℕ} {q : ℕ} {ms : List Msg} {bs : List ℕ} → Laid s p cs q ms bs → bs ≡ drop q t → Leads (step s t) p q ms
   leads Laid.here c = here
   leads (Laid.message {q = q} h b e {bs = bs} m l) c =
       takes (at-message q h b e bs m c)

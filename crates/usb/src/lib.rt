@@ -1,5 +1,6 @@
 // USB endpoints: their settings, and the shapes of their headers.
 #![tactic(auto)]
+
 ghost use Rattle.std.specs.Prelude.{◌≡◌, ◌≤◌};
 ghost use Rattle.layout.specs.Field.{shape as shape_of};
 ghost use Rattle.usb.specs.Formula.{spread as spread_of};
