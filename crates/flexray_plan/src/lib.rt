@@ -1,5 +1,6 @@
 // A plan of a FlexRay setting: whether it is sound, its numbers with those of its header; and where a further packet starts.
 #![tactic(auto)]
+
 ghost use Rattle.std.specs.Prelude.{◌≡◌, ◌+◌};
 ghost use Rattle.layout.specs.Multiple.{Roundable};
 ghost use Rattle.flexray.specs.Setting.{capped as capped_of, sound as sound_of};

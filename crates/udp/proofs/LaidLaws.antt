@@ -16,7 +16,7 @@ use Rattle.packet.specs.declared.Seen.{Seen}
 use Rattle.udp.specs.declared.Setting.{Setting}
 use Rattle.udp.specs.Setting.{fields, H}
 use Rattle.udp.specs.Layout.{Message, Laid}
-use Rattle.udp.specs.Reading.{seen, step}
+use Rattle.udp.specs.Reading.{step}
 use Rattle.udp.specs.Refusal.{Header, Broken}
 use Rattle.udp.proofs.SettingLaws.{head-size}
 use Rattle.udp.proofs.SeenLaws.{len, View, view, decided}
@@ -43,7 +43,7 @@ module _ (s : Setting) (t : List ℕ) where
       step_is q (View.message (omega (arith, m.least)) (omega (arith, m.most)) (omega (arith, m.least)))
       ∙ rw (n, d, v, ← hs, take_at b bs (length b) refl)
 
-  leads : {p q : ℕ} {cs : List ℕ} {ms : List Msg} {bs : List ℕ} → Laid s p cs q ms bs → bs ≡ drop q t → Leads (step s t) p q ms
+  leads : {p : ℕ} {cs : List ℕ} {q : ℕ} {ms : List Msg} {bs : List ℕ} → Laid s p cs q ms bs → bs ≡ drop q t → Leads (step s t) p q ms
   leads Laid.here c = here
   leads (Laid.message {q = q} h b {bs = bs} m l) c =
       takes (at-message q h b bs m c)

@@ -1,5 +1,6 @@
 // UDP: settings, and the plan of one.
 #![tactic(auto)]
+
 ghost use Rattle.std.specs.Prelude.{◌≡◌};
 ghost use Rattle.udp.specs.Plan.{plan_of};
 ghost use Rattle.udp.specs.Setting.{sound as sound_of};

@@ -1,5 +1,6 @@
 // A plan of a USB setting: whether it is sound, and its numbers with those of its header.
 #![tactic(auto)]
+
 ghost use Rattle.std.specs.Prelude.{◌≡◌, ◌≤◌, ◌^◌};
 ghost use Rattle.usb.specs.Setting.{aligned as aligned_of, sized as sized_of, sayable as sayable_of, sound as sound_of};
 ghost use Rattle.usb_plan.specs.Plan.{planned_of, LenOf};

@@ -1,0 +1,4 @@
+use Rattle.flexray_plan.proofs.aligned.Goals as goal
+
+pub returns : goal.returns
+returns c = rw (c.both.ensures, c.either.ensures)
