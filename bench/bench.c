@@ -884,16 +884,14 @@ static void print_texts(void)
     }
 }
 
-int main(int argc, char **argv)
+int main(void)
 {
-    (void)argv;
-    int emulated = argc > 1;
-    double budget = emulated ? 0.3e9 : 1.2e9, start = now();
+    double budget = 1.2e9, start = now();
 
     random_bytes(packet_pages, sizeof packet_pages);
     for (size_t i = 0; i < sizeof packet_pages; i += 3)
         packet_pages[i] |= 0xF8; /* so that every kind is frequent */
-    unsigned refused, cases = emulated ? 3000 : 30000;
+    unsigned refused, cases = 30000;
     unsigned bad = differing(cases, &refused);
     printf("%u random writes and %u random reads, %u of them refused: %u differ\n", cases, cases, refused, bad);
     unsigned bad_texts = differing_texts(cases, &refused);
@@ -901,7 +899,7 @@ int main(int argc, char **argv)
     if (bad != 0 || bad_texts != 0)
         return 1;
 
-    counts = !emulated && count_begin();
+    counts = count_begin();
     random_bytes(packet_pages, sizeof packet_pages);
     for (pass = 0; pass < PASSES && !differ; pass++) {
         line_count = 0;

@@ -1,5 +1,6 @@
 // The XCP_ON_USB block of a description file: what it says, and what is answered to a text.
 #![tactic(auto)]
+
 use usb::Setting;
 
 // What an endpoint block says: data packet size M, packing, alignment in bytes.

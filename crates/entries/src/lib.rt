@@ -1,5 +1,6 @@
 // An entry that opens a block: an endpoint, or a block that is read over.
 #![tactic(auto)]
+
 ghost use Rattle.std.specs.Prelude.{◌≡◌, true, [], ◌≤◌, length};
 ghost use Rattle.std.proofs.Math.Seq.{slice};
 ghost use Rattle.keywords.specs.Tables.{plain, ordinary, name};

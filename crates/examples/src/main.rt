@@ -1,82 +1,86 @@
 // Runs the examples of document 01, and some of our own for datagrams, and prints what is answered; the file `stdout` holds what that
 // document and Ask 3 say.
 #![tactic(auto)]
-use libc::STDOUT_FILENO;
+
 use packet::{Counter, Reading, Writing};
+use std::io::{Print, Result};
 use usb::Setting;
 
-fn say(text: &[u8]) {
-    io::write_all(STDOUT_FILENO, text);
+fn say(rt: &HostRuntime, text: &[u8]) -> Result<()> {
+    rt.stdout().write_all(text)
 }
 
-fn number(n: u32) {
-    say(b" ");
-    io::print_decimal(STDOUT_FILENO, n as u64);
+fn number(rt: &HostRuntime, n: u32) -> Result<()> {
+    print!(rt; " {n}")
 }
 
-fn refused(n: u32, place: u32) {
-    say(b" refused");
-    number(n);
-    number(place);
-    say(b"\n");
+fn refused(rt: &HostRuntime, n: u32, place: u32) -> Result<()> {
+    say(rt, b" refused")?;
+    number(rt, n)?;
+    number(rt, place)?;
+    say(rt, b"\n")
 }
 
-fn byte(b: u8) {
-    say(b" ");
-    io::print_hex(STDOUT_FILENO, b as u64, 2);
+fn byte(rt: &HostRuntime, b: u8) -> Result<()> {
+    print!(rt; " {b:02x}")
 }
 
-fn bytes(bs: &[u8]) {
+fn bytes(rt: &HostRuntime, bs: &[u8]) -> Result<()> {
     let mut i: usize = 0;
     while i < bs.len() {
-        byte(bs[i]);
+        byte(rt, bs[i])?;
         i += 1;
     }
+    Ok(())
 }
 
-fn numbers(ns: &[u32]) {
+fn numbers(rt: &HostRuntime, ns: &[u32]) -> Result<()> {
     let mut i: usize = 0;
     while i < ns.len() {
-        number(ns[i]);
+        number(rt, ns[i])?;
         i += 1;
     }
+    Ok(())
 }
 
 // So many rows, five numbers each.
-fn table(rows: &[u32], count: u32) {
+fn table(rt: &HostRuntime, rows: &[u32], count: u32) -> Result<()> {
     let end = count as usize * 5;
     if end <= rows.len() {
-        numbers(&rows[0..end]);
+        numbers(rt, &rows[0..end])?;
     }
+    Ok(())
 }
 
-fn read_told(answer: Reading, rows: &[u32]) {
+fn read_told(rt: &HostRuntime, answer: Reading, rows: &[u32]) -> Result<()> {
     match answer {
         Reading::Rows(k, _) => {
-            say(b" rows");
-            number(k);
-            say(b":");
-            table(rows, k);
-            say(b"\n");
+            say(rt, b" rows")?;
+            number(rt, k)?;
+            say(rt, b":")?;
+            table(rt, rows, k)?;
+            say(rt, b"\n")?;
         }
         Reading::Refused(n, place) => {
-            refused(n, place);
+            refused(rt, n, place)?;
         }
     }
+    Ok(())
 }
 
-fn write_told(answer: Writing, out: &[u8]) {
+fn write_told(rt: &HostRuntime, answer: Writing, out: &[u8]) -> Result<()> {
     match answer {
         Writing::Bytes(k, next) => {
-            bytes(packet::part(out, 0, k));
-            say(b" next");
-            number(next);
-            say(b"\n");
+            bytes(rt, packet::part(out, 0, k))?;
+            say(rt, b" next")?;
+            number(rt, next)?;
+            say(rt, b"\n")?;
         }
         Writing::Refused(n, place) => {
-            refused(n, place);
+            refused(rt, n, place)?;
         }
     }
+    Ok(())
 }
 
 // U1 in a packing of choice.
@@ -102,14 +106,15 @@ fn u2() -> Setting {
     }
 }
 
-fn usb_reads(text: &[u8], s: Setting, t: &[u8], c: Counter) {
+fn usb_reads(rt: &HostRuntime, text: &[u8], s: Setting, t: &[u8], c: Counter) -> Result<()> {
     let mut rows = [0u32; 20];
-    say(text);
+    say(rt, text)?;
     let answer = usb_reader::read(s, t, c, &mut rows);
-    read_told(answer, &rows);
+    read_told(rt, answer, &rows)
 }
 
 fn usb_writes(
+    rt: &HostRuntime,
     text: &[u8],
     s: Setting,
     packets: &[u8],
@@ -117,21 +122,22 @@ fn usb_writes(
     first: u32,
     fill: u8,
     full: bool,
-) {
+) -> Result<()> {
     let mut out = [0u8; 32];
-    say(text);
+    say(rt, text)?;
     let answer = usb_writer::write(s, packets, lengths, first, fill, full, &mut out);
-    write_told(answer, &out);
+    write_told(rt, answer, &out)
 }
 
 fn expecting(expected: u32) -> Counter {
     Counter { known: 1, expected }
 }
 
-fn usb_writer_examples() {
+fn usb_writer_examples(rt: &HostRuntime) -> Result<()> {
     let two = [0xFFu8, 0x01, 0x02, 0x03];
     let one_three = [1u32, 3];
     usb_writes(
+        rt,
         b"U1 writes [FF], [01 02 03]:",
         u1(1),
         &two,
@@ -139,9 +145,19 @@ fn usb_writer_examples() {
         254,
         0xEE,
         false,
-    );
-    usb_writes(b"U1 filled up:", u1(1), &two, &one_three, 254, 0xEE, true);
+    )?;
     usb_writes(
+        rt,
+        b"U1 filled up:",
+        u1(1),
+        &two,
+        &one_three,
+        254,
+        0xEE,
+        true,
+    )?;
+    usb_writes(
+        rt,
         b"U2 writes [10], [20]:",
         u2(),
         &[0x10, 0x20],
@@ -149,8 +165,9 @@ fn usb_writer_examples() {
         0,
         0xAA,
         false,
-    );
+    )?;
     usb_writes(
+        rt,
         b"U2 writes [10 11 12 13 14], [20]:",
         u2(),
         &[0x10, 0x11, 0x12, 0x13, 0x14, 0x20],
@@ -158,56 +175,61 @@ fn usb_writer_examples() {
         0,
         0xAA,
         false,
-    );
+    )
 }
 
-fn usb_counter_examples() {
+fn usb_counter_examples(rt: &HostRuntime) -> Result<()> {
     let twelve = b"\x01\xFE\xFF\xEE\x03\xFF\x01\x02\x03\xEE\xEE\xEE";
     usb_reads(
+        rt,
         b"U1 reads the 12 bytes, fresh:",
         u1(1),
         twelve,
         Counter::fresh(),
-    );
-    usb_reads(b"250 expected:", u1(1), twelve, expecting(250));
+    )?;
+    usb_reads(rt, b"250 expected:", u1(1), twelve, expecting(250))?;
     usb_reads(
+        rt,
         b"255 expected, 0 received:",
         u1(1),
         &[0x01, 0x00, 0xFF, 0xEE],
         expecting(255),
-    );
+    )?;
     usb_reads(
+        rt,
         b"0 expected, 255 received:",
         u1(1),
         &[0x01, 0xFF, 0xFF, 0xEE],
         expecting(0),
-    );
+    )
 }
 
-fn usb_reader_examples() {
+fn usb_reader_examples(rt: &HostRuntime) -> Result<()> {
     let zero = [0x00u8, 0x07, 0x09, 0x09];
-    usb_reads(b"U1 reads 00 07 09 09:", u1(1), &zero, Counter::fresh());
-    usb_reads(b"single:", u1(0), &zero, Counter::fresh());
-    usb_reads(b"empty, single:", u1(0), &[], Counter::fresh());
-    usb_reads(b"empty, multiple:", u1(1), &[], Counter::fresh());
-    usb_reads(b"empty, streaming:", u1(2), &[], Counter::fresh());
+    usb_reads(rt, b"U1 reads 00 07 09 09:", u1(1), &zero, Counter::fresh())?;
+    usb_reads(rt, b"single:", u1(0), &zero, Counter::fresh())?;
+    usb_reads(rt, b"empty, single:", u1(0), &[], Counter::fresh())?;
+    usb_reads(rt, b"empty, multiple:", u1(1), &[], Counter::fresh())?;
+    usb_reads(rt, b"empty, streaming:", u1(2), &[], Counter::fresh())
 }
 
-fn usb_refusal_examples() {
+fn usb_refusal_examples(rt: &HostRuntime) -> Result<()> {
     usb_reads(
+        rt,
         b"U1 reads 01 00 FF:",
         u1(1),
         &[0x01, 0x00, 0xFF],
         Counter::fresh(),
-    );
-    usb_reads(b"41 00:", u1(1), &[0x41, 0x00], Counter::fresh());
-    usb_reads(b"40 00:", u1(1), &[0x40, 0x00], Counter::fresh());
+    )?;
+    usb_reads(rt, b"41 00:", u1(1), &[0x41, 0x00], Counter::fresh())?;
+    usb_reads(rt, b"40 00:", u1(1), &[0x40, 0x00], Counter::fresh())?;
     usb_reads(
+        rt,
         b"U2 reads 05 00 AA AA 10 11 12 13:",
         u2(),
         &[0x05, 0x00, 0xAA, 0xAA, 0x10, 0x11, 0x12, 0x13],
         Counter::fresh(),
-    );
+    )
 }
 
 // R with a header and an alignment of choice.
@@ -221,31 +243,54 @@ fn r(header: u32, align: u32) -> flexray::Setting {
     }
 }
 
-fn flexray_reads(text: &[u8], s: flexray::Setting, t: &[u8]) {
+fn flexray_reads(rt: &HostRuntime, text: &[u8], s: flexray::Setting, t: &[u8]) -> Result<()> {
     let mut rows = [0u32; 20];
-    say(text);
+    say(rt, text)?;
     let answer = flexray_reader::read(s, t, Counter::fresh(), &mut rows);
-    read_told(answer, &rows);
+    read_told(rt, answer, &rows)
 }
 
-fn flexray_writes(text: &[u8], s: flexray::Setting, packets: &[u8], lengths: &[u32]) {
+fn flexray_writes(
+    rt: &HostRuntime,
+    text: &[u8],
+    s: flexray::Setting,
+    packets: &[u8],
+    lengths: &[u32],
+) -> Result<()> {
     let mut out = [0u8; 32];
-    say(text);
+    say(rt, text)?;
     let answer = flexray_writer::write(s, packets, lengths, 0, 0xEE, &mut out);
-    write_told(answer, &out);
+    write_told(rt, answer, &out)
 }
 
-fn flexray_examples() {
-    flexray_writes(b"R writes [FF]:", r(5, 2), &[0xFF], &[1]);
+fn flexray_examples(rt: &HostRuntime) -> Result<()> {
+    flexray_writes(rt, b"R writes [FF]:", r(5, 2), &[0xFF], &[1])?;
     flexray_writes(
+        rt,
         b"R writes [01 02], [FF]:",
         r(5, 2),
         &[0x01, 0x02, 0xFF],
         &[2, 1],
-    );
-    flexray_reads(b"R reads 07 01 FF EE:", r(5, 2), &[0x07, 0x01, 0xFF, 0xEE]);
-    flexray_writes(b"header 0 writes [FF 00]:", r(0, 1), &[0xFF, 0x00], &[2]);
-    flexray_reads(b"header 0 reads it:", r(0, 1), &[0x07, 0xFF, 0x00, 0xEE]);
+    )?;
+    flexray_reads(
+        rt,
+        b"R reads 07 01 FF EE:",
+        r(5, 2),
+        &[0x07, 0x01, 0xFF, 0xEE],
+    )?;
+    flexray_writes(
+        rt,
+        b"header 0 writes [FF 00]:",
+        r(0, 1),
+        &[0xFF, 0x00],
+        &[2],
+    )?;
+    flexray_reads(
+        rt,
+        b"header 0 reads it:",
+        r(0, 1),
+        &[0x07, 0xFF, 0x00, 0xEE],
+    )
 }
 
 // D: datagrams with packets of at most 64 bytes.
@@ -256,52 +301,61 @@ fn d() -> udp::Setting {
     }
 }
 
-fn udp_reads(text: &[u8], t: &[u8]) {
+fn udp_reads(rt: &HostRuntime, text: &[u8], t: &[u8]) -> Result<()> {
     let mut rows = [0u32; 20];
-    say(text);
+    say(rt, text)?;
     let answer = udp_reader::read(d(), t, Counter::fresh(), &mut rows);
-    read_told(answer, &rows);
+    read_told(rt, answer, &rows)
 }
 
-fn udp_writes(text: &[u8], packets: &[u8], lengths: &[u32], first: u32) {
+fn udp_writes(
+    rt: &HostRuntime,
+    text: &[u8],
+    packets: &[u8],
+    lengths: &[u32],
+    first: u32,
+) -> Result<()> {
     let mut out = [0u8; 32];
-    say(text);
+    say(rt, text)?;
     let answer = udp_writer::write(d(), packets, lengths, first, &mut out);
-    write_told(answer, &out);
+    write_told(rt, answer, &out)
 }
 
-fn udp_examples() {
+fn udp_examples(rt: &HostRuntime) -> Result<()> {
     let two = b"\x01\x00\xFF\xFF\xFF\x03\x00\x00\x00\x01\x02\x03";
     udp_writes(
+        rt,
         b"D writes [FF], [01 02 03]:",
         &[0xFF, 0x01, 0x02, 0x03],
         &[1, 3],
         65535,
-    );
-    udp_reads(b"D reads the 12 bytes, fresh:", two);
-    udp_writes(b"D writes no packets:", &[], &[], 7);
-    udp_reads(b"D reads no bytes:", &[]);
+    )?;
+    udp_reads(rt, b"D reads the 12 bytes, fresh:", two)?;
+    udp_writes(rt, b"D writes no packets:", &[], &[], 7)?;
+    udp_reads(rt, b"D reads no bytes:", &[])
 }
 
-fn udp_refusal_examples() {
+fn udp_refusal_examples(rt: &HostRuntime) -> Result<()> {
     udp_reads(
+        rt,
         b"LEN zero behind a message:",
         &[0x01, 0x00, 0x07, 0x00, 0xFF, 0x00, 0x00, 0x08, 0x00],
-    );
+    )?;
     udp_reads(
+        rt,
         b"three bytes left over:",
         &[0x01, 0x00, 0x07, 0x00, 0xFF, 0x01, 0x00, 0x08],
-    );
-    udp_reads(b"LEN over X:", &[0x41, 0x00, 0x07, 0x00]);
-    udp_reads(b"a packet cut:", &[0x02, 0x00, 0x07, 0x00, 0xFF]);
+    )?;
+    udp_reads(rt, b"LEN over X:", &[0x41, 0x00, 0x07, 0x00])?;
+    udp_reads(rt, b"a packet cut:", &[0x02, 0x00, 0x07, 0x00, 0xFF])
 }
 
-fn main() {
-    usb_writer_examples();
-    usb_counter_examples();
-    usb_reader_examples();
-    usb_refusal_examples();
-    flexray_examples();
-    udp_examples();
-    udp_refusal_examples();
+fn main(rt: HostRuntime) -> Result<()> {
+    usb_writer_examples(&rt)?;
+    usb_counter_examples(&rt)?;
+    usb_reader_examples(&rt)?;
+    usb_refusal_examples(&rt)?;
+    flexray_examples(&rt)?;
+    udp_examples(&rt)?;
+    udp_refusal_examples(&rt)
 }

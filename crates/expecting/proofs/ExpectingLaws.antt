@@ -17,7 +17,7 @@ use Rattle.description.specs.declared.Reached.TheVariants as R
 use Rattle.description.specs.Reading.{reading}
 use Rattle.description.proofs.TurnLaws.{turn_on, turn_wrong, turn_end, turn_cut}
 use Rattle.expecting.specs.declared.Expected.TheVariants as E
-use Rattle.expecting.specs.Expecting.{Expects, Led, At, Midway}
+use Rattle.expecting.specs.Expecting.{Expects, Led, Midway}
 
 ---- One word -------------------------------------------------------------------------------------------------------------------
 

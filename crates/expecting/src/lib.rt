@@ -1,5 +1,6 @@
 // Words that must stand at a place: one of a kind, and a series of them.
 #![tactic(auto)]
+
 ghost use Rattle.std.specs.Prelude.{◌≡◌, ◌<◌, ◌≤◌, length, get_or};
 ghost use Rattle.keywords.specs.Saying.{meaning};
 ghost use Rattle.expecting.specs.Expecting.{Expects, kinds, Led};

@@ -6,7 +6,7 @@ use Rattle.finding.specs.declared.Next.{Next}
 use Rattle.finding.specs.declared.Next.TheVariants as N
 use Rattle.words.specs.declared.Start.{Start}
 use Rattle.words.specs.declared.Start.TheVariants.{Comment, Line, Other}
-use Rattle.words.specs.Words.{ascii, begins, Word}
+use Rattle.words.specs.Words.{ascii, begins}
 use Rattle.words.specs.Parting.{find, Parted, parting}
 
 -- what starts with a slash, as the byte behind it tells

@@ -1,5 +1,6 @@
 // Finding the next word of a text. Runs of bytes are passed eight at a time; behind them each byte is looked at.
 #![tactic(auto)]
+
 ghost use Rattle.std.specs.Prelude.{◌≡◌, ◌<◌, ◌≤◌, ◌+◌, length, drop, get_or};
 ghost use Rattle.words.specs.Words.{is_blank, start as start_of, ends, ends_word, ends_line};
 ghost use Rattle.finding.specs.Finding.{slash_by, ends_comment, ends_string, Sought, Passing, NextWord};

@@ -1,5 +1,1 @@
-pub mod Thin
-pub mod ThinCode
-pub mod ThinCounter
-pub mod ThinState
-pub mod ThinSteps
+pub mod ToldLaws

@@ -2,16 +2,17 @@
 // bytes and next counter, or a refusal's number and place; row count, or the same; the last row; and 1 if the rows' parts are the packets.
 // A transfer that is longer by one byte is refused.
 #![tactic(auto)]
+
 use check::same;
-use libc::STDOUT_FILENO;
 use packet::{Counter, Reading, Writing, part};
+use std::io::{Print, Result};
 use usb::Setting;
 use usb_reader::read;
 use usb_writer::write;
 
-fn print(n: u32, after: u8) {
-    io::print_decimal(STDOUT_FILENO, n as u64);
-    io::write_all(STDOUT_FILENO, &[after]);
+fn print(rt: &HostRuntime, n: u32, after: u8) -> Result<()> {
+    print!(rt; "{n}")?;
+    rt.stdout().write_all(&[after])
 }
 
 // The packets' bytes: none is like its neighbours.
@@ -49,35 +50,43 @@ fn all_kept(t: &[u8], rows: &[u32], packets: &[u8]) -> bool {
 }
 
 // What was read of a transfer: its row count, its last row, and whether the packets were kept; or its refusal.
-fn show_read(answer: Reading, t: &[u8], rows: &[u32], packets: &[u8]) {
+fn show_read(
+    rt: &HostRuntime,
+    answer: Reading,
+    t: &[u8],
+    rows: &[u32],
+    packets: &[u8],
+) -> Result<()> {
     match answer {
         Reading::Rows(k, _) => {
-            print(k, b' ');
+            print(rt, k, b' ')?;
             if 20480 <= rows.len() {
-                print(rows[20475], b' ');
-                print(rows[20476], b' ');
-                print(rows[20477], b' ');
-                print(rows[20478], b' ');
-                print(rows[20479], b' ');
+                print(rt, rows[20475], b' ')?;
+                print(rt, rows[20476], b' ')?;
+                print(rt, rows[20477], b' ')?;
+                print(rt, rows[20478], b' ')?;
+                print(rt, rows[20479], b' ')?;
             }
-            print(all_kept(t, rows, packets) as u32, b'\n');
+            print(rt, all_kept(t, rows, packets) as u32, b'\n')?;
         }
         Reading::Refused(n, place) => {
-            print(n, b' ');
-            print(place, b'\n');
+            print(rt, n, b' ')?;
+            print(rt, place, b'\n')?;
         }
     }
+    Ok(())
 }
 
 // Writes the packets and reads them back.
 fn run(
+    rt: &HostRuntime,
     packing: u32,
     datapacket: u32,
     packets: &[u8],
     lengths: &[u32],
     out: &mut [u8],
     rows: &mut [u32],
-) {
+) -> Result<()> {
     let s = Setting {
         header: 4,
         packing,
@@ -86,24 +95,25 @@ fn run(
         longest: 60,
         direction: 0,
     };
-    print(packing, b' ');
+    print(rt, packing, b' ')?;
     match write(s, packets, lengths, 61440, 0xEE, false, out) {
         Writing::Bytes(k, next) => {
-            print(k, b' ');
-            print(next, b' ');
+            print(rt, k, b' ')?;
+            print(rt, next, b' ')?;
             let t = part(out, 0, k);
             let answer = read(s, t, Counter::fresh(), rows);
-            show_read(answer, t, rows, packets);
+            show_read(rt, answer, t, rows, packets)?;
         }
         Writing::Refused(n, place) => {
-            print(n, b' ');
-            print(place, b'\n');
+            print(rt, n, b' ')?;
+            print(rt, place, b'\n')?;
         }
     }
+    Ok(())
 }
 
 // A transfer of one byte more.
-fn run_longer(packets: &[u8], out: &[u8], rows: &mut [u32]) {
+fn run_longer(rt: &HostRuntime, packets: &[u8], out: &[u8], rows: &mut [u32]) -> Result<()> {
     let s = Setting {
         header: 4,
         packing: 2,
@@ -113,17 +123,17 @@ fn run_longer(packets: &[u8], out: &[u8], rows: &mut [u32]) {
         direction: 0,
     };
     let answer = read(s, out, Counter::fresh(), rows);
-    show_read(answer, out, rows, packets);
+    show_read(rt, answer, out, rows, packets)
 }
 
-fn main() {
+fn main(rt: HostRuntime) -> Result<()> {
     let mut packets = [0u8; 245760];
     let lengths = [60u32; 4096];
     let mut out = [0u8; 262145];
     let mut rows = [0u32; 20480];
     make(&mut packets);
-    run(0, 64, &packets, &lengths, &mut out, &mut rows);
-    run(1, 128, &packets, &lengths, &mut out, &mut rows);
-    run(2, 72, &packets, &lengths, &mut out, &mut rows);
-    run_longer(&packets, &out, &mut rows);
+    run(&rt, 0, 64, &packets, &lengths, &mut out, &mut rows)?;
+    run(&rt, 1, 128, &packets, &lengths, &mut out, &mut rows)?;
+    run(&rt, 2, 72, &packets, &lengths, &mut out, &mut rows)?;
+    run_longer(&rt, &packets, &out, &mut rows)
 }

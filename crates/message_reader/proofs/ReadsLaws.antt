@@ -7,7 +7,7 @@ use mathlib.Core.Bool.{Bool, true, false}
 use mathlib.Core.List.{List}
 use lib.ListN.{length}
 use lib.Dec.{ltb, eqb}
-use borrow.Author.Rules.{rules, zero≤}
+use borrow.Author.Rules.{rules}
 use borrow.Author.Tests.{ltb-true, ltb-false, lt-ltb, le-ltb, eq-eqb}
 use Rattle.packet.specs.declared.Counter.{Counter}
 use Rattle.packet.specs.declared.Reading.{Reading}
@@ -48,6 +48,9 @@ module _ {p : Plan} (t : List ℕ) (k : Messages p) (l : length t ≤ most_of p)
 pub only : (l n : ℕ) → l ≤ n → n < l + 1 → l ≡ n
 only l n h i = omega arith
 
+pub from_none : (n : ℕ) → 0 ≤ n
+from_none n = omega arith
+
 module _ {p : Plan} (k : Messages p) where
   -- with LEN and CTR a header is full
   module _ {l : ℕ} (e : l ≡ p.layout) (i : 1 ≤ p.ctrwidth) where
@@ -65,7 +68,7 @@ module _ {p : Plan} (k : Messages p) where
     pub packed : l ≤ 2 → p.layout < 3
     packed h = omega arith
 
-pub ruleset cases = (only, zero≤, le_antisymm, full-bytes, full-words, in_datagram, packed)
+pub ruleset cases = (only, from_none, le_antisymm, full-bytes, full-words, in_datagram, packed)
 
 ---- What is judged -------------------------------------------------------------------------------------------------------------
 

@@ -2,6 +2,7 @@
 // each told the layout apart from the plan: whoever says it by a literal gets a copy from the compiler that has only this layout. One function that does
 // both would be too dear to be copied.
 #![tactic(auto)]
+
 ghost use Rattle.std.specs.Prelude.{◌≡◌, length};
 ghost use Rattle.packet.specs.Answer.{Gives};
 ghost use Rattle.plan.specs.Plan.{Messages};

@@ -1,6 +1,7 @@
 // Reading over a block: the words and paired blocks inside it, up to its end. The names of the open blocks are held in a table, two numbers for
 // each: where the name starts and where it ends in the text.
 #![tactic(auto)]
+
 ghost use Rattle.std.specs.Prelude.{◌≡◌, ◌+◌, ◌<◌, ◌≤◌, length};
 ghost use Rattle.std.proofs.Math.Seq.{slice};
 ghost use Rattle.words.specs.Words.{same as same_text};

@@ -1,5 +1,6 @@
-// The C interface: include/plumagemud.h declares these functions and structs. Wrappers only.
+// What C calls: include/plumagemud.h declares these functions and structs, and the static library plumagemud_c exports them. Wrappers only.
 #![tactic(auto)]
+
 ghost use Rattle.std.specs.Prelude.{◌≡◌, not, eqb};
 ghost use Rattle.packet.specs.Kind.{kind_of};
 ghost use Rattle.packet.specs.Part.{check_of};
@@ -101,8 +102,7 @@ fn no_setting() -> Usb
     }
 }
 
-#[unsafe(no_mangle)]
-pub extern "C" fn xcp_usb_settings(text: &[u8], longest: u32) -> SettingsResult
+pub fn xcp_usb_settings(text: &[u8], longest: u32) -> SettingsResult
     ensures { result ≡ settings_result (settings_of text.now longest) }
 {
     match settings::settings(text, longest) {
@@ -124,30 +124,26 @@ pub extern "C" fn xcp_usb_settings(text: &[u8], longest: u32) -> SettingsResult
     }
 }
 
-#[unsafe(no_mangle)]
-pub extern "C" fn xcp_usb_read(s: Usb, t: &[u8], c: Counter, rows: &mut [u32]) -> ReadResult
+pub fn xcp_usb_read(s: Usb, t: &[u8], c: Counter, rows: &mut [u32]) -> ReadResult
     ensures { Reads (usb_read_of s t.now c rows.old) c result rows.new }
 {
     told_read(c, usb_reader::read(s, t, c, rows))
 }
 
-#[unsafe(no_mangle)]
-pub extern "C" fn xcp_flexray_read(s: FlexRay, t: &[u8], c: Counter, rows: &mut [u32]) -> ReadResult
+pub fn xcp_flexray_read(s: FlexRay, t: &[u8], c: Counter, rows: &mut [u32]) -> ReadResult
     ensures { Reads (flexray_read_of s t.now c rows.old) c result rows.new }
 {
     told_read(c, flexray_reader::read(s, t, c, rows))
 }
 
-#[unsafe(no_mangle)]
-pub extern "C" fn xcp_udp_read(s: Udp, t: &[u8], c: Counter, rows: &mut [u32]) -> ReadResult
+pub fn xcp_udp_read(s: Udp, t: &[u8], c: Counter, rows: &mut [u32]) -> ReadResult
     ensures { Reads (udp_read_of s t.now c rows.old) c result rows.new }
 {
     told_read(c, udp_reader::read(s, t, c, rows))
 }
 
 // Filled up where fillup is not 0.
-#[unsafe(no_mangle)]
-pub extern "C" fn xcp_usb_write(
+pub fn xcp_usb_write(
     s: Usb,
     packets: &[u8],
     lengths: &[u32],
@@ -164,8 +160,7 @@ pub extern "C" fn xcp_usb_write(
     told_write(first, r)
 }
 
-#[unsafe(no_mangle)]
-pub extern "C" fn xcp_flexray_write(
+pub fn xcp_flexray_write(
     s: FlexRay,
     packets: &[u8],
     lengths: &[u32],
@@ -180,8 +175,7 @@ pub extern "C" fn xcp_flexray_write(
     told_write(first, r)
 }
 
-#[unsafe(no_mangle)]
-pub extern "C" fn xcp_udp_write(
+pub fn xcp_udp_write(
     s: Udp,
     packets: &[u8],
     lengths: &[u32],
@@ -195,8 +189,7 @@ pub extern "C" fn xcp_udp_write(
     told_write(first, r)
 }
 
-#[unsafe(no_mangle)]
-pub extern "C" fn xcp_part_check(input: &[u8], place: u32, length: u32) -> CheckResult
+pub fn xcp_part_check(input: &[u8], place: u32, length: u32) -> CheckResult
     ensures { result ≡ check_result (check_of input.now place length) }
 {
     match packet::part_check(input, place, length) {
@@ -211,8 +204,7 @@ pub extern "C" fn xcp_part_check(input: &[u8], place: u32, length: u32) -> Check
     }
 }
 
-#[unsafe(no_mangle)]
-pub extern "C" fn xcp_kind(direction: u32, packet: &[u8]) -> u32
+pub fn xcp_kind(direction: u32, packet: &[u8]) -> u32
     ensures { result ≡ kind_of direction packet.now }
 {
     packet::kind(direction, packet)

@@ -4,7 +4,7 @@ use Prim.Native.Nat.{ℕ, ◌+◌, ◌*◌, ◌%◌, ◌^◌, ◌<◌, ◌≤◌
 use native.Mathlib.Omega.{arith}
 use native.Mathlib.Nat.{mod-lt}
 use mathlib.Core.Path.{◌≡◌, refl, sym, ap, ◌∙◌}
-use mathlib.Core.Bool.{true, false}
+use mathlib.Core.Bool.{true}
 use mathlib.Core.List.{List, [], ◌∷◌}
 use lib.ListN.{length, get_or, take}
 use lib.Seq.{get_or-take}
@@ -21,13 +21,13 @@ use Rattle.packet.proofs.PacketsLaws.{Each, length-packets}
 use Rattle.flexray.specs.declared.Setting.{Setting}
 use Rattle.flexray.specs.Setting.{W, moved}
 use Rattle.flexray.specs.Layout.{Laid, Laid.frame, Frame}
-use Rattle.flexray.specs.Row.{frame_table, frame_state}
+use Rattle.flexray.specs.Row.{frame_state}
 use Rattle.flexray.proofs.RowLaws.{frame_gaps, frame_expects}
 use Rattle.flexray.proofs.SettingLaws.{good}
 use Rattle.flexray.proofs.WriteLaws.{placed-length}
 use Rattle.plan.proofs.CaseLaws.{by_test}
 use Rattle.promises.proofs.Call.{read_back}
-use Rattle.promises.proofs.Flexray.{Reads, reads, Writes, writes, written, given, sent}
+use Rattle.promises.proofs.Flexray.{Reads, reads, Writes, writes, written, sent}
 
 -- a frame on its way: its packets and its bytes; and how it is read, with the table that is lent for its rows, what is answered, and how the table is left
 pub record Passage : Type 0 where
@@ -98,12 +98,12 @@ module _ (s : Setting) where
     laid-some (frame h b f g) = omega arith
 
     -- a frame with the counter that is due: its rows show no gap, and behind it that counter as its packets move it is expected
-    one : {c : ℕ} {e : Counter} {t rows left : List ℕ} {r : Reading} (ms : List Msg) → c < 256 → Frame s ms t → ((m : Msg) → (get_or ms 0 m).ctr ≡ c)
-        → Due e c → Reads s t e rows r left → 5 * length ms ≤ length rows
+    one : {c : ℕ} {e : Counter} {t left : List ℕ} {r : Reading} (rows : List ℕ) (ms : List Msg) → c < 256 → Frame s ms t
+        → ((m : Msg) → (get_or ms 0 m).ctr ≡ c) → Due e c → Reads s t e rows r left → 5 * length ms ≤ length rows
         → (r ≡ R.Rows (length ms) (record { known = 1; expected = (c + moved (length ms)) % 256 }))
         × ((i : ℕ) → i < length ms → get_or left (5 * i + 3) 1 ≡ 0)
-    one [] l f n due call room = absurd (omega (arith, laid-some f.laid))
-    one {c} {e} {t} {rows} {left} (m ∷ ms) l f n due call room =
+    one rows [] l f n due call room = absurd (omega (arith, laid-some f.laid))
+    one {c} {e} {t} {left} rows (m ∷ ms) l f n due call room =
         let w : W s ≡ 1 = omega (arith, (good s f.setting).ctrs) in
         let i : m.ctr ≡ c = n m in
         let b : m.ctr < 256 ^ W s = rw (w, i) l in
@@ -120,12 +120,13 @@ module _ (s : Setting) where
 
     -- frames laid out one behind another with their counters show no gap
     pub no_gap : {c : ℕ} {e : Counter} (xs : List Passage) → c < 256 → Sent c xs → Due e c → Read e xs → Each NoGap xs
-    no_gap [] l p due q = tt
+    no_gap {c} {e} [] l p due q = tt
     no_gap {c} {e} (x ∷ xs) l (k, p) due (a, q) =
-        let (told, gaps) = one x.packets l k.laid k.counter due a.call a.room in
+        let (told, gaps) = one x.lent x.packets l k.laid k.counter due a.call a.room in
         let state : read_state e x.answer ≡ record { known = 1; expected = (c + moved (length x.packets)) % 256 } = ap (read_state e) told in (
           record { all = (ap read_number told, ap read_value told); none = gaps },
-          no_gap xs (mod-lt (c + moved (length x.packets)) (omega arith)) p (λ u. ap (λ z. z.expected) state) q,
+          no_gap {c = (c + moved (length x.packets)) % 256} {e = read_state e x.answer} xs
+              (mod-lt (c + moved (length x.packets)) (omega arith)) p (λ u. ap (λ z. z.expected) state) q,
         )
 
     ---- Written frames --------------------------------------------------------------------------------------------------------
@@ -140,14 +141,14 @@ module _ (s : Setting) where
         ap length v.packets ∙ placed-length s v.fill c (packets v.lengths v.bytes) ∙ length-packets v.lengths v.bytes in (
           rw w at (held (W s) c a.willing.counter carried),
           record { laid = rw (v.packets, v.frame) y.laid; counter = λ m. rw v.packets (y.counter carried m) },
-          rw (n, ← w) (y.bytes.next carried),
+          rw n (rw w at (y.bytes.next carried)),
         )
 
-    pub written_sent : {c : ℕ} (xs : List Passage) → Written c xs → Sent c xs
-    written_sent [] p = tt
-    written_sent (x ∷ xs) (d, v, p) = let (l, k, e) = counted x v in (k, rw e at (written_sent xs p))
+    pub written_sent : (c : ℕ) (xs : List Passage) → Written c xs → Sent c xs
+    written_sent c [] p = tt
+    written_sent c (x ∷ xs) (d, v, p) = let (l, k, e) = counted x v in (k, rw e at (written_sent d xs p))
 
     -- frames written one behind another show no gap
     pub no_gap_written : {c : ℕ} {e : Counter} (xs : List Passage) → Written c xs → Due e c → Read e xs → Each NoGap xs
     no_gap_written [] p due q = tt
-    no_gap_written (x ∷ xs) (d, v, p) = no_gap (x ∷ xs) (counted x v).0 (written_sent (x ∷ xs) (d, v, p))
+    no_gap_written {c} (x ∷ xs) (d, v, p) due q = no_gap (x ∷ xs) (counted x v).0 (written_sent c (x ∷ xs) (d, v, p)) due q

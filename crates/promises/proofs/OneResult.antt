@@ -24,7 +24,7 @@ use Rattle.packet.proofs.part_check.Reads as Check
 use Rattle.packet.proofs.part.Reads as Part
 use Rattle.lent.specs.declared.Told.{Told}
 use Rattle.lent.specs.Told.{Tells}
-use Rattle.lent.proofs.ThinCounter.{one_telling}
+use Rattle.lent.proofs.ToldLaws.{one_telling}
 use Rattle.lengths.proofs.crowded.Reads as Crowded
 use Rattle.plan.proofs.joined.Reads as Joined
 use Rattle.plan.proofs.most.Reads as Most

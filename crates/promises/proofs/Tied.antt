@@ -4,11 +4,7 @@
 -- asks for something, or says less, is refused here.
 use mathlib.Core.Path.{◌≡◌, refl}
 use mathlib.Core.Bool.{not}
-use seplogic.Ra.Ura.{Ura}
 use lib.Dec.{eqb}
-use base.Logic.{emp}
-use contract.Monad.{fact}
-use prog.Wp.{Heap}
 use Rattle.packet.specs.Counter.{fresh}
 use Rattle.packet.specs.Kind.{kind_of}
 use Rattle.packet.specs.Part.{part_of, check_of}
@@ -20,18 +16,18 @@ use Rattle.lent.specs.Told.{Tells}
 use Rattle.usb.specs.Reading.{read_of as usb_read_of}
 use Rattle.usb.specs.Writing.{write_of as usb_write_of}
 use Rattle.usb_reader.proofs.read.Reads as UsbRead
-use Rattle.usb_reader.specs.contracts.read_lent as UsbLent
+use Rattle.usb_reader.proofs.read_lent.Reads as UsbLent
 use Rattle.usb_writer.proofs.write.Reads as UsbWrite
 use Rattle.settings.proofs.settings.Reads as Settings
 use Rattle.flexray.specs.Reading.{read_of as flexray_read_of}
 use Rattle.flexray.specs.Writing.{write_of as flexray_write_of}
 use Rattle.flexray_reader.proofs.read.Reads as FlexRayRead
-use Rattle.flexray_reader.specs.contracts.read_lent as FlexRayLent
+use Rattle.flexray_reader.proofs.read_lent.Reads as FlexRayLent
 use Rattle.flexray_writer.proofs.write.Reads as FlexRayWrite
 use Rattle.udp.specs.Reading.{read_of as udp_read_of}
 use Rattle.udp.specs.Writing.{write_of as udp_write_of}
 use Rattle.udp_reader.proofs.read.Reads as UdpRead
-use Rattle.udp_reader.specs.contracts.read_lent as UdpLent
+use Rattle.udp_reader.proofs.read_lent.Reads as UdpLent
 use Rattle.udp_writer.proofs.write.Reads as UdpWrite
 use Rattle.lending.proofs.usb_lent.Reads as LendUsb
 use Rattle.lending.proofs.flexray_lent.Reads as LendFlexRay
@@ -108,29 +104,22 @@ settings x a r e = (tt, λ p. p)
 
 ---- The state lent -------------------------------------------------------------------------------------------------------------
 
--- Rattle makes no such module of a function that is lent a struct. There the clauses themselves are what the promises speak of: nothing is asked, and
--- what is ensured is this fact
-module _ {M : Type 1} (𝓤 : Ura M) (H : Heap 𝓤) where
-  -- usb_reader::read_lent
-  pub usb_lent : (A : _) (m : _) (f : _) (x : _) (a : _) (r : _) (e : _) → ((UsbLent.clauses 𝓤 H A m f x a).requires tt ≡ emp 𝓤)
-      × ((UsbLent.clauses 𝓤 H A m f x a).ensures tt r e
-      ≡ fact 𝓤 (Tells (usb_read_of a.0 a.1.0.now a.1.1.0.now a.1.1.1.0.now) a.1.1.0.now
-      r e.1.1.0.now e.1.1.1.0.now))
-  usb_lent A m f x a r e = (refl, refl)
+-- what is ensured of a state that is lent is this fact, and no more
 
-  -- flexray_reader::read_lent
-  pub flexray_lent : (A : _) (m : _) (f : _) (x : _) (a : _) (r : _) (e : _) → ((FlexRayLent.clauses 𝓤 H A m f x a).requires tt ≡ emp 𝓤)
-      × ((FlexRayLent.clauses 𝓤 H A m f x a).ensures tt r e
-      ≡ fact 𝓤 (Tells (flexray_read_of a.0 a.1.0.now a.1.1.0.now a.1.1.1.0.now) a.1.1.0.now
-      r e.1.1.0.now e.1.1.1.0.now))
-  flexray_lent A m f x a r e = (refl, refl)
+-- usb_reader::read_lent
+pub usb_lent : (x : _) (a : _) (r : _) (e : _) → UsbLent.Asked x a
+    × (UsbLent.Post x a r e ≡ Tells (usb_read_of a.0 a.1.0.now a.1.1.0.now a.1.1.1.0.now) a.1.1.0.now r e.1.1.0.now e.1.1.1.0.now)
+usb_lent x a r e = (tt, refl)
 
-  -- udp_reader::read_lent
-  pub udp_lent : (A : _) (m : _) (f : _) (x : _) (a : _) (r : _) (e : _) → ((UdpLent.clauses 𝓤 H A m f x a).requires tt ≡ emp 𝓤)
-      × ((UdpLent.clauses 𝓤 H A m f x a).ensures tt r e
-      ≡ fact 𝓤 (Tells (udp_read_of a.0 a.1.0.now a.1.1.0.now a.1.1.1.0.now) a.1.1.0.now
-      r e.1.1.0.now e.1.1.1.0.now))
-  udp_lent A m f x a r e = (refl, refl)
+-- flexray_reader::read_lent
+pub flexray_lent : (x : _) (a : _) (r : _) (e : _) → FlexRayLent.Asked x a
+    × (FlexRayLent.Post x a r e ≡ Tells (flexray_read_of a.0 a.1.0.now a.1.1.0.now a.1.1.1.0.now) a.1.1.0.now r e.1.1.0.now e.1.1.1.0.now)
+flexray_lent x a r e = (tt, refl)
+
+-- udp_reader::read_lent
+pub udp_lent : (x : _) (a : _) (r : _) (e : _) → UdpLent.Asked x a
+    × (UdpLent.Post x a r e ≡ Tells (udp_read_of a.0 a.1.0.now a.1.1.0.now a.1.1.1.0.now) a.1.1.0.now r e.1.1.0.now e.1.1.1.0.now)
+udp_lent x a r e = (tt, refl)
 
 -- lending's functions, which lend a state that they hold
 pub lending_usb : (x : _) (a : _) (r : _) (e : _) → LendUsb.Asked x a

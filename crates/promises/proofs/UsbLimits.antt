@@ -11,12 +11,13 @@ use Rattle.layout.specs.Multiple.{pad}
 use Rattle.layout.specs.Walk.{walk, go, Out.list}
 use Rattle.packet.specs.declared.Counter.{Counter}
 use Rattle.packet.specs.declared.Reading.TheVariants as Reads
+use Rattle.packet.specs.declared.Seen.TheVariants as Seen
 use Rattle.packet.specs.declared.Writing.TheVariants as Writes
 use Rattle.packet.specs.Counter.{fresh, valid, gap, next, later, advance}
 use Rattle.packet.specs.Row.{row, table, behind}
 use Rattle.packet.specs.Packets.{packets, mismatched, first}
 use Rattle.packet.specs.Answer.{bounded, settled, weighed, stored}
-use Rattle.packet.specs.Limit.{most_bytes}
+use Rattle.packet.specs.Limit.{most_bytes as byte_limit}
 use Rattle.usb.specs.declared.Setting as UsbSetting
 use Rattle.usb.specs.Setting as U
 use Rattle.usb.specs.Reading as UsbReading
@@ -184,11 +185,15 @@ unfolding transfers calls pad walk go valid gap next later advance row table beh
     UsbWriting.rest_bytes UsbWriting.permits UsbWriting.skipped UsbWriting.write UsbWriting.misfit UsbWriting.composed UsbWriting.write_of
 usb_limits = (refl, refl)
 
+-- in 262,144 bytes that start with a zero LEN, the first place is refused with 6
+zero_first : (bs : List ℕ) → length bs ≡ 262143 → UsbReading.seen (U1 0) (0x00 ∷ bs) 0 ≡ Seen.Refused 6 0
+unfolding U.headers UsbReading.len_at UsbReading.judge UsbReading.seen
+zero_first bs e = rw e refl
+
 -- a single transfer of 262,144 bytes is not too long: one that starts with a zero LEN is refused with 6
 pub most_bytes : (bs : List ℕ) → length bs ≡ 262143 → (UsbReading.read_of (U1 0) (0x00 ∷ bs) fresh []).answer ≡ Reads.Refused 6 0
-unfolding walk go valid bounded settled U.headers U.sound UsbReading.len_at UsbReading.judge UsbReading.seen UsbReading.ahead UsbReading.judged
-    UsbReading.read_of
-most_bytes bs e = rw e refl
+unfolding walk go valid bounded settled U.headers U.sound UsbReading.ahead UsbReading.judged UsbReading.read_of
+most_bytes bs e = rw (le-ltb 262144 (length (0x00 ∷ bs)) (omega (arith, e)), zero_first bs e) refl
 
 -- 262,145 bytes are too long, whatever they are; and 1 comes before
 pub more_bytes : (bs : List ℕ) → length bs ≡ 262145 → ((UsbReading.read_of (U1 0) bs fresh []).answer ≡ Reads.Refused 2 0)
@@ -198,8 +203,8 @@ more_bytes bs e = (rw e refl, refl)
 
 -- where a writer has room for them, 262,144 bytes that it has composed are written, and 262,145 are not
 pub most_written : (bs out : List ℕ) → 262145 ≤ length out
-    → (length bs ≡ 262144 → (stored most_bytes 0 out (list bs)).answer ≡ Writes.Bytes 262144 0)
-    × (length bs ≡ 262145 → (stored most_bytes 0 out (list bs)).answer ≡ Writes.Refused 4 0)
+    → (length bs ≡ 262144 → (stored byte_limit 0 out (list bs)).answer ≡ Writes.Bytes 262144 0)
+    × (length bs ≡ 262145 → (stored byte_limit 0 out (list bs)).answer ≡ Writes.Refused 4 0)
 unfolding settled
 most_written bs out room = (
   λ e. rw (le-ltb (min (length out) 262144) (length bs) (omega arith), e) refl,

@@ -1,6 +1,7 @@
 // Reading, written once for every layout: a step that judges and a loop over it, a step that tests no rule and a loop over it that gives the rows.
 // Each caller says its case by literals, all at one call, and the compiler makes a loop for each case.
 #![tactic(auto)]
+
 ghost use Rattle.std.specs.Prelude.{◌≡◌, ◌+◌, ◌*◌, ◌≤◌, length};
 ghost use Rattle.plan.specs.Place.{Near, Beyond};
 ghost use Rattle.plan.specs.Plan.{Cased};

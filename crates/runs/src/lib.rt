@@ -1,5 +1,6 @@
 // Runs of bytes in a text, passed eight or four at a time. The last bytes of a run, too few for that, are the caller's.
 #![tactic(auto)]
+
 ghost use Rattle.std.specs.Prelude.{◌≡◌, ◌≤◌, ◌+◌, length, drop, take};
 ghost use Rattle.runs.specs.Runs.{eight, some, under, equal, other, Run};
 

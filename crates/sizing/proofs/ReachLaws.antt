@@ -139,11 +139,11 @@ reach-past k h [] e = omega arith
 reach-past {p} k {a} h (n ∷ ns) e =
     let (f, g) = clear_first e in
     let s = fit-ahead k f h in
-    omega (arith, s.on, spot_past p a n, behind-on p (p.size + n), reach-past k s.ahead ns g)
+    omega (arith, s.on, spot_past p a n, behind-on p (p.size + n), reach-past k {a = (spot p a n).next} s.ahead ns g)
 
 -- and not past the end of a data packet
 pub reach-ahead : {p : Plan} → Formed p → {a : At} → (p.layout < 3 → a.q ≤ a.end) → (ns : List ℕ) → Clear p a ns
     → p.layout < 3 → (reach p a ns).q ≤ (reach p a ns).end
 unfolding reach
 reach-ahead k h [] e = h
-reach-ahead k h (n ∷ ns) e = let (f, g) = clear_first e in reach-ahead k (fit-ahead k f h).ahead ns g
+reach-ahead {p} k {a} h (n ∷ ns) e = let (f, g) = clear_first e in reach-ahead k {a = (spot p a n).next} (fit-ahead k f h).ahead ns g

@@ -1,6 +1,7 @@
 // Where messages come to stand, and the size of what is to be written, once for every layout: 0 single, 1 multiple, 2 streaming, 3 frame, 4 datagram.
 // Whoever calls the loop says its case by literals, and the compiler makes a loop for each.
 #![tactic(auto)]
+
 ghost use Rattle.std.specs.Prelude.{◌≡◌};
 ghost use Rattle.plan.specs.Place.{Streaming};
 ghost use Rattle.plan.specs.Plan.{Cased};

@@ -1,12 +1,14 @@
 // Runs the cases of data/cases.bin and writes a line for each. Both files, the cases and the lines in `stdout`, come from a second
 // reading of document 01 and of Ask 3 (oracle/), whose src/record.rs says how a case and a line are written.
 #![tactic(auto)]
+
 ghost use Rattle.std.specs.Prelude.{◌<◌, ◌≤◌, length};
 
 use lending::Lent;
 use lent::Told;
-use libc::STDOUT_FILENO;
 use packet::{Checked, Counter, Reading, Writing};
+use std::fs::File;
+use std::io::{Print, Read, Result};
 use std::num::wrapping_add_usize as plus;
 
 // The five numbers of a line.
@@ -443,72 +445,75 @@ fn one(
     read_case(function, head, body, buffer, numbers)
 }
 
-fn fetch(fd: i32, body: &mut [u8], size: usize) {
+fn fetch(file: &mut File, body: &mut [u8], size: usize) -> Result<()> {
     if size > body.len() {
-        return;
+        return Ok(());
     }
-    io::read_full(fd, &mut body[0..size]);
+    file.read_exact(&mut body[0..size])
 }
 
 // Reads a case, runs it and puts its line into the text, which is written when it is nearly full, and behind the last case. Answers the
 // place behind the line, or one past the text behind the last case.
 fn turn(
-    fd: i32,
+    rt: &HostRuntime,
+    file: &mut File,
     text: &mut [u8; 8192],
     at: usize,
     body: &mut [u8; 2048],
     buffer: &mut [u8; 262400],
     packets: &mut [u8; 65664],
     numbers: &mut [u32; 20480],
-) -> usize {
+) -> Result<usize> {
     let mut head = [0u8; 56];
-    let got = io::read_full(fd, &mut head);
+    let ends = file.read_exact(&mut head).is_err();
     let size = word(&head, 4) as usize;
-    if got < 56 || size > 2048 {
-        io::write_all(STDOUT_FILENO, part(text, 0, at));
-        return 8193;
+    if ends || size > 2048 {
+        rt.stdout().write_all(part(text, 0, at))?;
+        return Ok(8193);
     }
-    fetch(fd, body, size);
+    fetch(file, body, size)?;
     let line = one(&head, part(body, 0, size), buffer, packets, numbers);
     let end = put_line(text, at, line);
     if end < 8000 {
-        return end;
+        return Ok(end);
     }
-    io::write_all(STDOUT_FILENO, part(text, 0, end));
-    0
+    rt.stdout().write_all(part(text, 0, end))?;
+    Ok(0)
 }
 
 // A loop has to end, and nothing says that a file does: its turns are counted down.
 fn run(
-    fd: i32,
+    rt: &HostRuntime,
+    file: &mut File,
     text: &mut [u8; 8192],
     body: &mut [u8; 2048],
     buffer: &mut [u8; 262400],
     packets: &mut [u8; 65664],
     numbers: &mut [u32; 20480],
-) {
+) -> Result<()> {
     let mut turns: u32 = 1000000;
     let mut at: usize = 0;
     while turns > 0 && at <= 8192 {
-        at = turn(fd, text, at, body, buffer, packets, numbers);
+        at = turn(rt, file, text, at, body, buffer, packets, numbers)?;
         turns -= 1;
     }
+    Ok(())
 }
 
-fn main() {
+fn main(rt: HostRuntime) -> Result<()> {
     let mut text = [0u8; 8192];
     let mut body = [0u8; 2048];
     let mut buffer = [0u8; 262400];
     let mut packets = [0u8; 65664];
     let mut numbers = [0u32; 20480];
-    let fd = os::open_read(b"cases.bin");
+    let mut file = File::open(&rt, "cases.bin")?;
     run(
-        fd,
+        &rt,
+        &mut file,
         &mut text,
         &mut body,
         &mut buffer,
         &mut packets,
         &mut numbers,
-    );
-    libc::close(fd);
+    )
 }

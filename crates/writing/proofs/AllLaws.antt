@@ -73,7 +73,7 @@ bytes-length {p} k free {a} l c (n ∷ ns) bs e f =
     let s = fit-ahead k x l in
     let on : a.q ≤ (spot p a (length (take n bs))).from = rw z s.on in
     let o = rw z at (one-length k free a c (take n bs) (packets ns (drop n bs)) on) in
-    o ∙ bytes-length k free s.ahead (next p.ctrwidth c) ns (drop n bs) d y
+    o ∙ bytes-length k free {a = (spot p a n).next} s.ahead (next p.ctrwidth c) ns (drop n bs) d y
 
 ---- The loop -------------------------------------------------------------------------------------------------------------------
 

@@ -1,6 +1,7 @@
 // Writing, once for every layout: 0 single, 1 multiple, 2 streaming, 3 frame, 4 datagram. Whoever calls the loop says its case by literals, and the
 // compiler makes a loop for each.
 #![tactic(auto)]
+
 ghost use Rattle.std.specs.Prelude.{◌≡◌, ◌++◌, ◌-◌, length, take, replicate};
 ghost use Rattle.std.proofs.lemmas.List.Edits.{sets};
 ghost use Rattle.plan.specs.Plan.{Cased};

@@ -1,4 +1,5 @@
 #![tactic(auto)]
-fn main() {
-    rowprogram::run();
+
+fn main(rt: HostRuntime) {
+    rowprogram::run(&rt);
 }

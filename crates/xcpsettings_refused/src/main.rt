@@ -1,4 +1,5 @@
 #![tactic(auto)]
-fn main() {
-    settingprogram::run();
+
+fn main(rt: HostRuntime) {
+    settingprogram::run(&rt);
 }

@@ -1,0 +1,11 @@
+-- Each turn passes a gap.
+use Prim.Native.Nat.{◌-◌}
+use lib.ListN.{length}
+use Rattle.finding.specs.Finding.{Passing}
+use Rattle.finding.proofs.next_word.Given as goal
+
+abbrev pub invariant-loop-k : goal.invariant-loop-k
+invariant-loop-k l = Passing l.t l.q l.k
+
+abbrev pub decreases-loop-k : goal.decreases-loop-k
+decreases-loop-k l = length l.t - l.k

@@ -1,0 +1,6 @@
+-- Where the run ends, each turn passes a byte that is no quotation mark.
+use Rattle.finding.proofs.SeekLaws.{seeks}
+use Rattle.finding.proofs.string_end.Goals as goal
+
+pub loop-k-init : goal.loop-k-init
+loop-k-init c = search seeks

@@ -1,2 +1,0 @@
-pub mod Lend
-pub mod LendCode

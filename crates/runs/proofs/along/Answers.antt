@@ -1,0 +1,6 @@
+-- Each turn passes four bytes of the run.
+use Rattle.runs.proofs.RunLaws.{runs}
+use Rattle.runs.proofs.along.Goals as goal
+
+pub loop-k-preserved : goal.loop-k-preserved
+loop-k-preserved c = search runs
