@@ -1,6 +1,7 @@
 // Writing by a plan, where each packet has a header of its own: an output is sized, inputs and room are checked, and it is written. Two functions do
 // it, each told the layout apart from the plan: whoever says it by a literal gets a copy from the compiler that has only this layout.
 #![tactic(auto)]
+
 ghost use Rattle.std.specs.Prelude.{◌≡◌, length};
 ghost use Rattle.packet.specs.Answer.{Gives};
 ghost use Rattle.plan.specs.Plan.{Messages};
