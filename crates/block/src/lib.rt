@@ -1,5 +1,6 @@
 // The XCP_ON_USB block: its opening words, its entries, its end, and nothing behind it.
 #![tactic(auto)]
+
 ghost use Rattle.std.specs.Prelude.{◌≡◌, [], ◌≤◌, length};
 ghost use Rattle.std.proofs.Math.Option.{none};
 ghost use Rattle.description.specs.Reading.{State, whole, gone_on, reading};

@@ -1,17 +1,12 @@
 -- A frame's first packet, and those behind it, which carry no counter.
-use Prim.Native.Nat.{ℕ, ◌+◌, ◌-◌, ◌<◌, ◌≤◌}
+use Prim.Native.Nat.{ℕ, ◌+◌, ◌<◌, ◌≤◌}
 use native.Mathlib.Omega.{arith}
-use native.Mathlib.Nat.{zero-add}
 use mathlib.Core.Path.{◌≡◌, refl, sym, ap, ◌∙◌}
-use mathlib.Core.Bool.{cond}
 use mathlib.Core.List.{List, [], ◌∷◌}
 use lib.ListN.{length}
 use lib.Seq.{sets, length-sets}
-use lib.Dec.{eqb}
 use borrow.Author.Rules.{rules}
 use borrow.Author.Tests.{ne_eqb, lt-ltb, le-ltb}
-use Rattle.layout.specs.Field.{place, says, Name.LEN, Name.CTR}
-use Rattle.layout.specs.Leaf.{Number}
 use Rattle.layout.specs.Walk.{Out, before, after, Out.list, Out.refused}
 use Rattle.layout.proofs.MultipleLaws.{aligned_power}
 use Rattle.layout.proofs.WalkLaws.{walk_eq}
@@ -25,7 +20,7 @@ use Rattle.packet.specs.Row.{row, numbers}
 use Rattle.packet.specs.Seen.{message, as_step}
 use Rattle.packet.proofs.RowLaws.{state_unread, state_unaltered}
 use Rattle.plan.specs.declared.Plan.{Plan}
-use Rattle.plan.proofs.CaseLaws.{by_test, by_less}
+use Rattle.plan.proofs.CaseLaws.{by_less}
 use Rattle.reading.specs.Loops.{Standing}
 use Rattle.reading.specs.Reads.{reads}
 use Rattle.reading.proofs.LoopLaws.{counted-list}
@@ -37,12 +32,12 @@ use Rattle.rows.specs.Counters.{Sane}
 use Rattle.rows.specs.Fill.{Filled.filled, fill_of, filling}
 use Rattle.rows.specs.Rows.{Putting, Put}
 use Rattle.rows.proofs.CountLaws.{counted-before}
-use Rattle.flexray.specs.Setting.{fields, moved}
-use Rattle.flexray.specs.Reading.{packet_at, first_len, seen, step, ahead}
+use Rattle.flexray.specs.Setting.{moved}
+use Rattle.flexray.specs.Reading.{packet_at, seen, step, ahead}
 use Rattle.flexray.specs.Row.{frame_table, frame_state}
 use Rattle.flexray.proofs.ReadLaws.{forward}
 use Rattle.flexray_plan.specs.Plan.{setting, further_of}
-use Rattle.flexray_reader.specs.Reads.{framing, Given, First, Judgeable, Following, Fillable}
+use Rattle.flexray_reader.specs.Reads.{framing, Given, First, Following, Fillable}
 use Rattle.flexray_reader.proofs.StepLaws.{Stands, tells}
 
 -- the frame's first row is written with its counter, and then the others with none
@@ -64,29 +59,6 @@ behind t m = record { q = m.at + m.len; end = length t }
 ---- The first packet -----------------------------------------------------------------------------------------------------------
 
 module _ {p : Plan} {t : List ℕ} (g : Given p t) where
-  -- LEN ends the header
-  len-said : {n r : ℕ} → Number t (p.size - 1) 1 n → r ≡ cond (eqb p.lenwidth 0) (length t - p.size) n → r ≡ first_len (setting p) t
-  len-said {n} l e =
-      let i : 0 < p.lenwidth → place LEN (fields (setting p)) ≡ p.size - 1 = λ u. omega (arith, g.ready.len-last u) in
-      let o : 0 < p.lenwidth → p.lenwidth ≡ 1 = λ u. omega (arith, g.ready.len-narrow) in
-      by_less 0 p.lenwidth (λ u. e ∙ rw (← g.ready.lenwidth, o u, i u, zero-add (p.size - 1)) l.is)
-      (λ u. let z : p.lenwidth ≡ 0 = omega arith in e ∙ rw (← g.ready.lenwidth, z, g.ready.size))
-
-  ctr-said : {c : ℕ} → Number t 1 p.ctrwidth c → c ≡ says CTR (fields (setting p)) t 0
-  ctr-said k =
-      by_less 0 p.ctrwidth (λ u. k.is ∙ rw (← g.ready.ctrwidth, g.ready.ctr_second u))
-      (λ u. let o : p.ctrwidth ≡ 0 = omega arith in k.is ∙ rw (← g.ready.ctrwidth, o))
-
-  pub first-is : {n c r : ℕ} → Number t (p.size - 1) 1 n → Number t 1 p.ctrwidth c → r ≡ cond (eqb p.lenwidth 0) (length t - p.size) n
-      → First p t (record { at = p.size; len = r; ctr = c })
-  first-is l k e =
-      record {
-        is = rw (g.ready.size, len-said l e, ctr-said k);
-        at = refl;
-        small = by_test (eqb p.lenwidth 0) (λ b. rw (e, b) (omega (arith, g.most, g.ready.ceiling-most))) (λ b. rw (e, b) l.small);
-        counter = k.below;
-      }
-
   ---- What is ahead of the frame's start -------------------------------------------------------------------------------------
 
   module _ {m : Found} (f : First p t m) where
@@ -104,12 +76,6 @@ module _ {p : Plan} {t : List ℕ} (g : Given p t) where
     module _ (z : m.len ≡ 0 → ⊥) (l : m.at + m.len ≤ length t) where
       standing : Standing (further_of p) t (behind t m)
       standing = let r = g.ready in search rules
-
-      pub begun : {k : Plan} → k ≡ further_of p → Judgeable k t (behind t m)
-      begun e =
-          let r = g.ready in
-          let a = aligned_power r.aligned in
-          rw e (search rules)
 
       told : ahead (setting p) t 0 ≡ before (message t m ∷ []) (reads (further_of p) t (behind t m))
       told =
@@ -165,4 +131,4 @@ module _ {p : Plan} {t : List ℕ} {c : Counter} {k n : ℕ} (h : Fillable p t c
         let x = first-before p.direction p.ctrwidth rows c (message t m) (reads (further_of p) t (behind t m)) in
         (rw i at e) ∙ sym (rw (h.walked, told h.given f some fits, u.rows, u.state) x)
 
-pub ruleset frames = (rules, first-is, empty, past, begun, judged-behind, putting, following, framed)
+pub ruleset frames = (rules, empty, past, judged-behind, putting, following, framed)

@@ -1,5 +1,6 @@
 // The FlexRay reader: it judges a frame, checks the room, and gives the rows.
 #![tactic(auto)]
+
 ghost use Rattle.std.specs.Prelude.{◌≡◌, length};
 ghost use Rattle.packet.specs.Answer.{Gives};
 ghost use Rattle.lent.specs.Told.{Tells};

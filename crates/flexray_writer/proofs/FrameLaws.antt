@@ -74,7 +74,7 @@ module _ {p : Plan} (k : Ready p) where
   pub reach-inside : {a : At} → a.q ≤ p.datapacket → (ns : List ℕ) → Clear f a ns → (reach f a ns).q ≤ p.datapacket
   unfolding reach
   reach-inside h [] x = h
-  reach-inside h (n ∷ ns) x = let (y, w) = clear_first x in reach-inside (fit-frame formed y refl) ns w
+  reach-inside {a} h (n ∷ ns) x = let (y, w) = clear_first x in reach-inside {a = (spot f a n).next} (fit-frame formed y refl) ns w
 
   ---- All packets ----------------------------------------------------------------------------------------------------------------
 
@@ -105,7 +105,7 @@ module _ {p : Plan} (k : Ready p) where
         let d : sum ns ≡ length (drop n bs) = rw length-drop (omega arith) in
         let (y, w) = clear_first x in
         further-one a c (take n bs) (omega (arith, fit-limit formed y)) (packets ns (drop n bs))
-        (evening (setting p) free (reach f (spot f a n).next ns).q) (rw z (further-is c ns (drop n bs) d w))
+        (evening (setting p) free (reach f (spot f a n).next ns).q) (rw z (further-is {a = (spot f a n).next} c ns (drop n bs) d w))
 
 ---- From the header's last byte on -----------------------------------------------------------------------------------------------
 

@@ -42,7 +42,7 @@ use Rattle.sizing.proofs.ReachLaws.{Clear}
 use Rattle.writing.specs.declared.Begin.{Begin}
 use Rattle.writing.specs.Puts.{bytes_from, Wrote}
 use Rattle.writing.proofs.AllLaws.{bytes-length}
-use Rattle.flexray_writer.specs.Writes.{Sizing, Putting, head_bytes, Begun, Counted, Fitted, Roomy}
+use Rattle.flexray_writer.specs.Writes.{head_bytes, Begun, Counted, Fitted, Roomy}
 use Rattle.flexray_writer.proofs.FrameLaws.{formed, reach-inside, further-is, index_is, frame-long, frame_past, frame-over}
 
 pub counted : {p : Plan} {b : Begin} {ns : List ℕ} {h m : Bool} → Begun p b → h ≡ holds p.ctrwidth b.ctr → h ≡ true
@@ -58,9 +58,6 @@ counted {p} {b} {ns} t e f i j =
     record { begun = t; held = held; counts = m; some = omega arith; few = few; said = said }
 
 module _ {p : Plan} {b : Begin} {ns : List ℕ} (k : Counted p b ns) {f : Plan} (d : f ≡ further_of p) where
-  pub sizing : Sizing f b.q ns
-  sizing = let t = k.begun in let m = formed t.ready in rw d (search rules)
-
   pub fitted : {z : Sized} {bs : List ℕ} → SizedAs f b.q ns z → length ns ≤ z.taken → z.sum ≡ length bs → Fitted p b bs ns z.behind.q
   fitted {z} x l e =
       let t = k.begun in
@@ -124,9 +121,6 @@ module _ {p : Plan} {b : Begin} {bs ns : List ℕ} {end : ℕ} (g : Fitted p b b
       let j : y ≡ sets old b.q (further (setting p) b.free b.q (packets ns bs)) =
       v ∙ rw ((rw d at w).bytes, whole) (sym (sets-append put (evening (setting p) b.free end) old b.q ∙ rw put-long)) in
       u ∙ rw (j, e, ← z, split) (frame-over t one others old)
-
-pub putting : {p f : Plan} {b : Begin} {bs ns : List ℕ} {end m : ℕ} → Roomy p b bs ns end m → f ≡ further_of p → Putting f b bs ns m
-putting h d = let g = h.fitted in let m = formed g.counted.begun.ready in rw d (search rules)
 
 ---- The answer -----------------------------------------------------------------------------------------------------------------
 
@@ -232,4 +226,4 @@ module _ (p : Plan) (b : Begin) (bs ns out : List ℕ) where
 ---- For search -----------------------------------------------------------------------------------------------------------------
 
 pub ruleset writes =
-    (rules, counted, sizing, fitted, roomy, composed-is, putting, least, begun, by_plan, unsound, over, uncounted, unfit, unlike, crowded, written)
+    (rules, counted, fitted, roomy, composed-is, least, begun, by_plan, unsound, over, uncounted, unfit, unlike, crowded, written)

@@ -1,5 +1,6 @@
 // The FlexRay writer: it sizes a frame, checks its inputs and the room, and writes it.
 #![tactic(auto)]
+
 ghost use Rattle.std.specs.Prelude.{◌≡◌, cond, ◌||◌, ltb, length};
 ghost use Rattle.std.proofs.lemmas.List.Edits.{sets};
 ghost use Rattle.packet.specs.Answer.{Gives};

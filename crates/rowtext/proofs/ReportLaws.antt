@@ -48,7 +48,7 @@ tellable {out} {rows} {new} k t c {r} g l =
 ---- The rows that fit ----------------------------------------------------------------------------------------------------------
 
 -- a message has at least four bytes
-four : {p q : ℕ} {cs bs : List ℕ} {ms : List Msg} → Laid u1 p cs q ms bs → 4 * length ms ≤ length bs
+four : {p : ℕ} {cs : List ℕ} {q : ℕ} {bs : List ℕ} {ms : List Msg} → Laid u1 p cs q ms bs → 4 * length ms ≤ length bs
 four here = omega arith
 four (message h b e {bs = bs} {ms = ms} m l) =
     let w : (length h + length b + length e) % 4 ≡ 0 = m.whole in

@@ -1,5 +1,6 @@
 // The text of what is read of a transfer: a line for each row, or the line of a refusal.
 #![tactic(auto)]
+
 ghost use Rattle.std.specs.Prelude.{◌≡◌, ◌*◌, drop};
 ghost use Rattle.packet.specs.Counter.{fresh};
 ghost use Rattle.usb.specs.Reading.{read_of};

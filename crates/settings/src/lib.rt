@@ -1,5 +1,6 @@
 // The settings of a slave's endpoints, from the XCP_ON_USB block of its description file.
 #![tactic(auto)]
+
 ghost use Rattle.std.specs.Prelude.{◌≡◌, ◌<◌};
 ghost use Rattle.usb.specs.Setting.{sound as sound_of};
 ghost use Rattle.description.specs.declared.Outcome.TheVariants as O;

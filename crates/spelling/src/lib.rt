@@ -1,5 +1,6 @@
 // Text that is put into a lent output: bytes, numbers in decimal, and the line of a refusal.
 #![tactic(auto)]
+
 ghost use Rattle.std.specs.Prelude.{length};
 ghost use Rattle.store.specs.Store.{Inside, Short};
 ghost use Rattle.spelling.specs.Put.{Spelt, Puts};

@@ -1,5 +1,5 @@
-// Standard input read to its end, and standard output written at once. There is no exit status, so what cannot be read or written is told in a line on
-// standard error.
+// Standard input read to its end, and standard output written at once. The exit status is 0 in any case, so what cannot be read or written is told in a line
+// on standard error.
 #![tactic(auto)]
 
 ghost use Rattle.std.specs.Prelude.{◌≡◌, length};

@@ -1,5 +1,6 @@
 // The UDP reader: by the plan of its setting.
 #![tactic(auto)]
+
 ghost use Rattle.packet.specs.Answer.{Gives};
 ghost use Rattle.lent.specs.Told.{Tells};
 ghost use Rattle.udp.specs.Reading.{read_of};

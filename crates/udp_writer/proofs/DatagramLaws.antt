@@ -1,12 +1,11 @@
 -- The bytes that the loop puts are those of a datagram, and the lengths that it takes are those that fit.
-use Prim.Native.Nat.{ℕ, ◌+◌, ◌-◌}
+use Prim.Native.Nat.{ℕ, ◌+◌}
 use native.Mathlib.Nat.{sub_self}
 use mathlib.Core.Path.{◌≡◌, refl}
 use mathlib.Core.Bool.{false, or-false, ◌||◌}
 use mathlib.Core.List.{List, [], ◌∷◌, append-nil}
 use lib.ListN.{length}
 use lib.Dec.{eqb, ltb}
-use Rattle.layout.specs.Field.{bytes}
 use Rattle.packet.specs.declared.At.{At}
 use Rattle.packet.specs.Counter.{next}
 use Rattle.packet.specs.Packets.{packets}

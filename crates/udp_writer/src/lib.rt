@@ -1,5 +1,6 @@
 // The UDP writer: by the plan of its setting. No byte of a datagram is free, and none is filled up.
 #![tactic(auto)]
+
 ghost use Rattle.packet.specs.Answer.{Gives};
 ghost use Rattle.udp.specs.Writing.{write_of};
 

@@ -1,5 +1,6 @@
 // The USB reader: by the plan of its setting.
 #![tactic(auto)]
+
 ghost use Rattle.packet.specs.Answer.{Gives};
 ghost use Rattle.lent.specs.Told.{Tells};
 ghost use Rattle.usb.specs.Reading.{read_of};

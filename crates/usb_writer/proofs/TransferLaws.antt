@@ -95,7 +95,7 @@ module _ {p : Plan} (k : Ready p) where
   reach-cut : {a : At} → Cut p a → (ns : List ℕ) → Clear p a ns → Cut p (reach p a ns)
   unfolding reach
   reach-cut c [] f = c
-  reach-cut c (n ∷ ns) f = let (x, y) = clear_first f in reach-cut (step k c x).next ns y
+  reach-cut {a = a} c (n ∷ ns) f = let (x, y) = clear_first f in reach-cut {a = (spot p a n).next} (step k c x).next ns y
 
   -- the transfer is the messages, and what fills up its last data packet
   module _ (free : ℕ) (full : Bool) where
@@ -130,7 +130,7 @@ module _ {p : Plan} (k : Ready p) where
         let d : sum ns ≡ length (drop n bs) = rw length-drop (omega arith) in
         let (x, y) = clear_first f in
         write-one t c (take n bs) (rw z x) (packets ns (drop n bs)) (write (setting p) free full (reach p (spot p a n).next ns).q 0 [])
-        (rw z (write-is (step k t x).next (next p.ctrwidth c) ns (drop n bs) d y))
+        (rw z (write-is {a = (spot p a n).next} (step k t x).next (next p.ctrwidth c) ns (drop n bs) d y))
 
   ---- The end --------------------------------------------------------------------------------------------------------------------
 

@@ -1,5 +1,6 @@
 // The USB writer: by the plan of its setting.
 #![tactic(auto)]
+
 ghost use Rattle.packet.specs.Answer.{Gives};
 ghost use Rattle.usb.specs.Writing.{write_of};
 
