@@ -1,5 +1,6 @@
 // The text of the settings that a description file says: a line for each endpoint, or the line of a refusal.
 #![tactic(auto)]
+
 ghost use Rattle.std.specs.Prelude.{◌≡◌};
 ghost use Rattle.store.specs.Store.{Inside};
 ghost use Rattle.keywords.specs.Saying.{told};
