@@ -1,5 +1,6 @@
 // Callers of the readers with the state lent. Each holds a state, lends it for the call, and gives it back as the call left it.
 #![tactic(auto)]
+
 ghost use Rattle.flexray.specs.Reading.{read_of as flexray_read_of};
 ghost use Rattle.udp.specs.Reading.{read_of as udp_read_of};
 ghost use Rattle.usb.specs.Reading.{read_of as usb_read_of};
