@@ -70,7 +70,8 @@ module _ (t : List ℕ) (k : ℕ) (h : k < length t) where
   pub start-over : 47 < get_or t k 0 → S.Other ≡ start (drop k t)
   start-over o = rw (drop-cons t k 0 h) (sym (over_slash (get_or t k 0) (drop (suc k) t) o))
 
-  pub start_slash : {s : ℕ} {r : Start} → get_or t k 0 ≡ 47 → s ≡ get_or t (k + 1) 0 → r ≡ slash_by (eqb s 42) (eqb s 47) → r ≡ start (drop k t)
+  pub start_slash : {s : ℕ} {r : Start} → get_or t k 0 ≡ 47 → s ≡ get_or t (k + 1) 0 → r ≡ slash_by (eqb s 42) (eqb s 47)
+      → r ≡ start (drop k t)
   start_slash e f g = rw (start-at, e, ← f) g
 
   pub start-blank : {b : Bool} → b ≡ is_blank (get_or t k 0) → b ≡ true → S.Blank ≡ start (drop k t)

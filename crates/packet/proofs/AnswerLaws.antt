@@ -1,5 +1,6 @@
 -- What was judged decides the answer: why a call is refused, why it is not, and that a refusal changes nothing. Once for every reader and writer.
-use Rattle.std.proofs.Common.{◌≡◌, ℕ, ◌+◌, ◌<◌, ◌≤◌, Bool, true, false, cond, ◌↔◌, List, length, take, drop, sym, refl, ap, ◌∙◌, zero-add, arith, take_at, drop_at}
+use Rattle.std.proofs.Common.{◌≡◌, ℕ, ◌+◌, ◌<◌, ◌≤◌, Bool, true, false, cond, ◌↔◌, List}
+use Rattle.std.proofs.Common.{length, take, drop, sym, refl, ap, ◌∙◌, zero-add, arith, take_at, drop_at}
 use lib.Seq.{sets, sets-eq}
 use Rattle.layout.specs.Walk.{Out, Out.list, Out.refused}
 use Rattle.packet.specs.Answer.{Answer, Gives, settled}

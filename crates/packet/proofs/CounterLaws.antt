@@ -1,5 +1,6 @@
 -- Counters over their width. The gap is the one number below the counter's size that, added to the expected counter, comes to the received one.
-use Rattle.std.proofs.Common.{◌≡◌, ℕ, zero, suc, ◌+◌, ◌-◌, ◌%◌, ◌^◌, ◌<◌, ◌≤◌, Bool, true, false, cond, ◌||◌, eqb, ltb, List, sym, refl, ◌∙◌, add-zero, mod-lt, mod-eq_of_lt, zero-add, arith, ltb-false, ltb-true, lt-ltb, ne_eqb, eqb-true}
+use Rattle.std.proofs.Common.{◌≡◌, ℕ, zero, suc, ◌+◌, ◌-◌, ◌%◌, ◌^◌, ◌<◌, ◌≤◌, Bool, true, false, cond, ◌||◌, eqb}
+use Rattle.std.proofs.Common.{ltb, List, sym, refl, ◌∙◌, add-zero, mod-lt, mod-eq_of_lt, zero-add, arith, ltb-false, ltb-true, lt-ltb, ne_eqb, eqb-true}
 use native.Mathlib.Nat.{add-mod_right, mod-add-mod}
 use mathlib.Core.Bool.{or-true}
 use borrow.Author.Tests.{eqb-false}

@@ -1,5 +1,7 @@
 -- Packets in joined bytes, tests on their lengths, and the least index at which a test passes.
-use Rattle.std.proofs.Common.{◌≡◌, ℕ, zero, suc, ◌<◌, ◌≤◌, Bool, true, false, cond, not, ◌||◌, eqb, ltb, List, [], ◌∷◌, map, length, get_or, take, drop, refl, ap, arith, length-drop, take-append-drop, length-take, ltb-false, ltb-true, eqb-true}
+use Rattle.std.proofs.Common.{◌≡◌, ℕ, zero, suc, ◌<◌, ◌≤◌, Bool, true, false, cond, not, ◌||◌, eqb, ltb, List, []}
+use Rattle.std.proofs.Common.{◌∷◌, map, length, get_or, take, drop, refl, ap, arith}
+use Rattle.std.proofs.Common.{length-drop, take-append-drop, length-take, ltb-false, ltb-true, eqb-true}
 use borrow.Author.Tests.{eqb-false}
 use Rattle.layout.proofs.TestLaws.{Tells, Tells.passes, Tells.fails, why_passed, why_failed, passed, failed}
 use Rattle.packet.specs.Limit.{most_lengths}

@@ -1,6 +1,7 @@
 -- Where each packet has a header of its own, a read is refused exactly where document 01's table says so, and accepted exactly where nothing is refused:
 -- once for USB and UDP, from what a transport shows of its walk.
-use Rattle.std.proofs.Common.{◌≡◌, ℕ, ◌<◌, ◌≤◌, Bool, true, false, cond, not, ltb, List, length, refl, ap, arith, ltb-false, ltb-true, le-ltb, lt-ltb}
+use Rattle.std.proofs.Common.{◌≡◌, ℕ, ◌<◌, ◌≤◌, Bool, true, false, cond, not, ltb}
+use Rattle.std.proofs.Common.{List, length, refl, ap, arith, ltb-false, ltb-true, le-ltb, lt-ltb}
 use Rattle.layout.specs.Walk.{Out, Out.list, Out.refused}
 use Rattle.packet.specs.declared.Counter.{Counter}
 use Rattle.packet.specs.Answer.{Ready, bounded, answered}

@@ -1,5 +1,6 @@
 -- Why a reader refuses, and why it accepts: by its counter, by what was judged, and by its table.
-use Rattle.std.proofs.Common.{◌≡◌, ℕ, ◌*◌, ◌<◌, ◌≤◌, Bool, true, false, cond, List, length, take, drop, refl, ap, arith, ltb-false, ltb-true, le-ltb, lt-ltb}
+use Rattle.std.proofs.Common.{◌≡◌, ℕ, ◌*◌, ◌<◌, ◌≤◌, Bool, true, false, cond, List}
+use Rattle.std.proofs.Common.{length, take, drop, refl, ap, arith, ltb-false, ltb-true, le-ltb, lt-ltb}
 use lib.Seq.{sets}
 use Rattle.layout.specs.Walk.{Out, Out.list, Out.refused}
 use Rattle.packet.specs.declared.Counter.{Counter}

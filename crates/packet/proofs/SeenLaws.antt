@@ -1,5 +1,6 @@
 -- A message that was read is shown by its part: asked for by place and length, the part has exactly the packet's bytes. Once for every layout.
-use Rattle.std.proofs.Common.{◌≡◌, ℕ, zero, suc, ◌+◌, ◌-◌, min, Bool, true, false, cond, leb, List, [], ◌∷◌, length, take, drop, sym, refl, ap, arith, length-drop, drop_of_length-le, length-take, leb-false}
+use Rattle.std.proofs.Common.{◌≡◌, ℕ, zero, suc, ◌+◌, ◌-◌, min, Bool, true, false, cond, leb, List}
+use Rattle.std.proofs.Common.{[], ◌∷◌, length, take, drop, sym, refl, ap, arith, length-drop, drop_of_length-le, length-take, leb-false}
 use lib.Seq.{take-nil}
 use Rattle.layout.specs.Walk.{Leads, Step.entry, Leads.here, Leads.takes, Leads.skips}
 use Rattle.packet.specs.declared.Found.{Found}

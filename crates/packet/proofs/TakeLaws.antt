@@ -1,5 +1,6 @@
 -- Going through the lengths that a writer is given, one a turn: what is behind, and what is left of the lengths and of the joined bytes.
-use Rattle.std.proofs.Common.{◌≡◌, ℕ, ◌+◌, ◌-◌, ◌<◌, ◌≤◌, List, [], ◌∷◌, length, get_or, take, drop, arith, length-drop, drop_of_length-le, take_all, drop-drop}
+use Rattle.std.proofs.Common.{◌≡◌, ℕ, ◌+◌, ◌-◌, ◌<◌, ◌≤◌, List, [], ◌∷◌}
+use Rattle.std.proofs.Common.{length, get_or, take, drop, arith, length-drop, drop_of_length-le, take_all, drop-drop}
 use Rattle.layout.proofs.PartLaws.{drop-next, long}
 use Rattle.packet.specs.Packets.{sum, packets}
 

@@ -1,5 +1,6 @@
 -- What a writer weighs and what it answers, by each reason: once for every writer.
-use Rattle.std.proofs.Common.{◌≡◌, ℕ, ◌<◌, ◌≤◌, Bool, true, false, cond, not, ◌&&◌, ◌||◌, ltb, List, length, sym, refl, ap, ◌∙◌, arith, ltb-false, ltb-true}
+use Rattle.std.proofs.Common.{◌≡◌, ℕ, ◌<◌, ◌≤◌, Bool, true, false, cond, not, ◌&&◌, ◌||◌}
+use Rattle.std.proofs.Common.{ltb, List, length, sym, refl, ap, ◌∙◌, arith, ltb-false, ltb-true}
 use lib.Seq.{sets}
 use Rattle.layout.specs.Walk.{Out.list, Out.refused}
 use Rattle.layout.proofs.TestLaws.{or_left, or_right}

@@ -1,5 +1,6 @@
 -- Why a writer refuses, and why it accepts: by its setting and counter, by its lengths, and by its output.
-use Rattle.std.proofs.Common.{◌≡◌, ℕ, ◌<◌, ◌≤◌, min, Bool, true, false, cond, not, ◌&&◌, ltb, List, length, take, drop, refl, ap, arith, ltb-false, ltb-true, le-ltb, lt-ltb}
+use Rattle.std.proofs.Common.{◌≡◌, ℕ, ◌<◌, ◌≤◌, min, Bool, true, false, cond, not, ◌&&◌, ltb}
+use Rattle.std.proofs.Common.{List, length, take, drop, refl, ap, arith, ltb-false, ltb-true, le-ltb, lt-ltb}
 use mathlib.Core.Bool.{and-false}
 use lib.Seq.{sets}
 use Rattle.layout.specs.Walk.{Out, Out.list, Out.refused}

@@ -25,7 +25,8 @@ pub data WriteRefusal (sound : Bool) (w most : ℕ) (Fit Unfit : ℕ → Type 0)
   counter : Exceeds w c → WriteRefusal sound w most Fit Unfit long bs ns c bytes 1 0
   mismatch : Ready sound (holds w c) → Mismatch ns bs → WriteRefusal sound w most Fit Unfit long bs ns c bytes 2 0
   -- the least index
-  unfit : {i : ℕ} → Ready sound (holds w c) → Matched ns bs → i < length ns → ((j : ℕ) → j < i → Fit (slice_index ns j)) → Unfit (slice_index ns i)
+  unfit : {i : ℕ} → Ready sound (holds w c) → Matched ns bs → i < length ns → ((j : ℕ) → j < i → Fit (slice_index ns j))
+      → Unfit (slice_index ns i)
       → WriteRefusal sound w most Fit Unfit long bs ns c bytes 3 i
   room : Ready sound (holds w c) → Matched ns bs → ((j : ℕ) → j < length ns → Fit (slice_index ns j)) → NoRoom most bytes long
       → WriteRefusal sound w most Fit Unfit long bs ns c bytes 4 0

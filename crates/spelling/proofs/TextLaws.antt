@@ -65,7 +65,8 @@ few-digits zero (suc (suc k)) n h f = absurd (omega (arith, tens f))
 few-digits (suc d) (suc (suc k)) n h f = omega (arith, few-digits d (suc k) (n / 10) (fewer f _ h) (shorter f))
 
 -- what io spelled
-pub spelt : {n : ℕ} {text : List ℕ} {k : ℕ} → n < 4294967296 → IsDigitCount 10 1 n k → IsPrefixLen k text → take k text ≡ last_digits 10 k n → Spelt n text k
+pub spelt : {n : ℕ} {text : List ℕ} {k : ℕ} → n < 4294967296 → IsDigitCount 10 1 n k → IsPrefixLen k text → take k text ≡ last_digits 10 k n
+    → Spelt n text k
 spelt {n} {text} {k} h f c e =
     record { digits = e ∙ spells_decimal k n f; count = c.1; inside = c.0; few = few-digits 9 k n (omega arith) f }
 

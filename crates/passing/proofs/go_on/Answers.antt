@@ -23,7 +23,8 @@ use Rattle.passing.proofs.PassingLaws.{
 use Rattle.passing.proofs.go_on.Goals as goal
 
 -- the word that was found, told apart
-sign : {t : List ℕ} {q from to : ℕ} {n : Next} {r : Sign} → NextWord t q n → n ≡ N.Word from to → SignOf (slice from to t) from to r → Signed t q r
+sign : {t : List ℕ} {q from to : ℕ} {n : Next} {r : Sign} → NextWord t q n → n ≡ N.Word from to
+    → SignOf (slice from to t) from to r → Signed t q r
 sign n e s = signed s (word-told n e)
 
 pub open-requires : goal.open-requires
