@@ -1,6 +1,6 @@
 -- A turn of the reader's loop: what the text still comes to, by the word that was found next.
 use Prim.Native.Nat.{ℕ}
-use mathlib.Core.Path.{◌≡◌}
+use mathlib.Core.Path.{◌≡◌, ap}
 use mathlib.Core.Option.{none, some}
 use mathlib.Core.List.{List}
 use lib.ListN.{length}
@@ -8,7 +8,7 @@ use lib.Seq.{slice}
 use Rattle.words.specs.declared.Word.{Word}
 use Rattle.words.specs.declared.Wrong.{Wrong}
 use Rattle.finding.specs.Finding.{NextWord}
-use Rattle.std.specs.Prelude.{Ok, Err, Some, None}
+use Rattle.std.specs.Prelude.{Result, Ok, Err, Some, None, IsErr, IsErrAnd}
 use Rattle.description.specs.Reading as O
 use Rattle.description.specs.Reading.{State, step, ending, gone_on, reading}
 
@@ -35,3 +35,8 @@ module _ {t : List ℕ} {q : ℕ} (s : State) where
   pub turn_cut : {e : Wrong} → NextWord t q (Err e) → reading t q s ≡ Err e
   unfolding reading
   turn_cut n = rw (n.is, n.within)
+
+-- what a `?` returns is the error that it met
+pub gives_on : {X E : Type 0} (r : Result X E) {e : E} → IsErr r × IsErrAnd r (λ d. d ≡ e) → r ≡ Err e
+gives_on (Err d) h = ap Err h.1
+gives_on (Ok x) h = absurd h.1
