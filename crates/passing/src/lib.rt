@@ -102,11 +102,12 @@ fn close(t: &[u8], q: usize, names: &mut Names) -> Result<usize, Wrong>
     ensures { Turned t.now q (closing t.now names.old) names.new result }
 {
     let word = needed_word(t, q)?;
-    if !same(word.bytes(t), names.innermost(t)) {
-        return Err(Wrong { place: word.from });
+    if same(word.bytes(t), names.innermost(t)) {
+        names.depth -= 1;
+        Ok(word.to)
+    } else {
+        Err(Wrong { place: word.from })
     }
-    names.depth -= 1;
-    Ok(word.to)
 }
 
 // A word inside a block, and the name behind it where it opens or closes another.

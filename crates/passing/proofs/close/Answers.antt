@@ -6,9 +6,9 @@ use Rattle.passing.proofs.close.Goals as goal
 pub innermost-requires : goal.innermost-requires
 innermost-requires c = (c.requires.0, (top _ _ _ c.requires.0 c.requires.1.lie).0)
 
-pub returns-then-not-same : goal.returns-then-not-same
-returns-then-not-same c =
-    close_other c.requires.0 c.requires.1 c.in_ok-word.ensures (rw (c.bytes.ensures, c.innermost.ensures) at c.same.ensures) c.if-not-same.true
+pub returns-else-same : goal.returns-else-same
+returns-else-same c =
+    close_other c.requires.0 c.requires.1 c.in_ok-word.ensures (rw (c.bytes.ensures, c.innermost.ensures) at c.same.ensures) c.if-same.false
 
-pub returns : goal.returns
-returns c = close-on c.requires.0 c.requires.1 c.in_ok-word.ensures (rw (c.bytes.ensures, c.innermost.ensures) at c.same.ensures) c.if-not-same.false
+pub returns-then-same : goal.returns-then-same
+returns-then-same c = close-on c.requires.0 c.requires.1 c.in_ok-word.ensures (rw (c.bytes.ensures, c.innermost.ensures) at c.same.ensures) c.if-same.true
