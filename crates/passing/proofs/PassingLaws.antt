@@ -2,8 +2,10 @@
 use Prim.Native.Nat.{ℕ, ◌-◌, ◌<◌, ◌≤◌}
 use native.Mathlib.Omega.{arith}
 use mathlib.Core.Path.{◌≡◌, refl, sym, ap, ◌∙◌}
+use mathlib.Core.Logic.{◌⊎◌, inl, inr}
 use mathlib.Core.Bool.{Bool, true, false}
-use mathlib.Core.List.{List, ◌∷◌}
+use mathlib.Core.Option.{none, some}
+use mathlib.Core.List.{List, [], ◌∷◌}
 use lib.ListN.{length}
 use lib.Seq.{slice, length-slice}
 use Rattle.std.specs.Prelude.{Option, Result, Ok, Err, Some, None}
@@ -13,7 +15,8 @@ use Rattle.words.specs.declared.Wrong.{Wrong}
 use Rattle.words.specs.Words.{same}
 use Rattle.words.proofs.SameLaws.{same_true}
 use Rattle.finding.specs.Finding.{NextWord}
-use Rattle.keywords.specs.Tables.{Text, begin, end, plain}
+use Rattle.keywords.specs.declared.Side.TheVariants.{Cmd, Res}
+use Rattle.keywords.specs.Tables.{Text, begin, end, name, plain}
 use Rattle.keywords.proofs.TableLaws.{Plain, plain-is, to-plain}
 use Rattle.description.specs.Reading.{Found, State, step, reading}
 use Rattle.description.proofs.TurnLaws.{turn_on, turn_wrong, turn_end, turn_cut}
@@ -21,7 +24,7 @@ use Rattle.passing.specs.declared.Names.{Names}
 use Rattle.passing.specs.declared.Sign.{Sign}
 use Rattle.passing.specs.declared.Sign.TheVariants as S
 use Rattle.passing.specs.Names.{name_in, names_in, held}
-use Rattle.passing.specs.Passing.{Needed, Stopping, Signed, Held, inside_of, opening, closing, Turned, Passable, Passed, OnTheWay}
+use Rattle.passing.specs.Passing.{Needed, Stopping, Signed, NextName, Held, inside_of, opening, closing, Turned, Passable, Passed, OnTheWay}
 use Rattle.passing.proofs.NamesLaws.{names_some, top, empty, none_open, opened, lies}
 
 ---- What a word is -------------------------------------------------------------------------------------------------------------
@@ -47,22 +50,37 @@ module _ (w : Text) {a : Bool} (e : a ≡ same w begin) where
 
 ---- Behind /begin --------------------------------------------------------------------------------------------------------------
 
-module _ {t : List ℕ} {q : ℕ} {n : Names} (some : 0 < n.depth) (h : Held t n 6 q) where
-  module _ {w : Word} (x : NextWord t q (Ok (Some w))) where
-    pub open-room : (w.from < 65536) × (w.to < 65536) × (n.depth < 2340)
-    open-room =
-        let y = x.within in
-        (omega (arith, h.short), omega (arith, h.short), omega (arith, h.short, h.deep))
+-- no name, but a word that opens or closes a block
+step_no : (f : Found) (ns : List Text) (w : Text) → same w (name Cmd) ≡ false → same w (name Res) ≡ false → plain w ≡ false → step (State.begun f ns) w ≡ none
+unfolding step
+step_no f [] w a b e = rw (a, b, e)
+step_no f (n ∷ ns) w a b e = rw e
 
-    pub open_on : length n.places ≡ 2340 → plain (slice w.from w.to t) ≡ true → Turned t q (opening t n) (held n w) (Ok w.to)
-    unfolding step
-    open_on r b =
-        let y = x.within in
+module _ {t : List ℕ} {q : ℕ} where
+  pub no_name : {x : Sign} {w : Word} → Signed t q (Ok (x, w)) → (x ≡ S.Begin) ⊎ (x ≡ S.End) → NextName t q (Err (record { place = w.from }))
+  no_name s (inl e) =
+      let (n, b) = rw e at s in
+      λ f ns. turn_wrong (State.begun f ns) n (rw b (step_no f ns begin refl refl refl))
+  no_name s (inr e) =
+      let (n, b) = rw e at s in
+      λ f ns. turn_wrong (State.begun f ns) n (rw b (step_no f ns end refl refl refl))
+
+step_name : (f : Found) (n : Text) (ns : List Text) (w : Text) → plain w ≡ true → step (State.begun f (n ∷ ns)) w ≡ some (State.inside f (w ∷ n ∷ ns))
+unfolding step
+step_name f n ns w e = rw e
+
+module _ {t : List ℕ} {q : ℕ} {n : Names} (h : Held t n 6 q) where
+  module _ (some : 0 < n.depth) {w : Word} (x : NextName t q (Ok w)) where
+    pub open_on : length n.places ≡ 2340 → Turned t q (opening t n) (held n w) (Ok w.to)
+    open_on r =
+        let y = x.0.within in
         let m : n.depth < length n.places = omega (arith, h.short, h.deep) in
+        let i = name_in t n.places (n.depth - 1) in
+        let is = names_in t n.places (n.depth - 1) in
         record {
           is = λ f.
               rw (opened t n.places n.depth w.from w.to m, names_some t n.places n.depth some)
-              (turn_on (State.begun f (name_in t n.places (n.depth - 1) ∷ names_in t n.places (n.depth - 1))) x (rw b));
+              (turn_on (State.begun f (i ∷ is)) x.0 (step_name f i is (slice w.from w.to t) x.1));
           place = (
             omega arith,
             record {
@@ -74,24 +92,8 @@ module _ {t : List ℕ} {q : ℕ} {n : Names} (some : 0 < n.depth) (h : Held t n
           );
         }
 
-    -- no name, but a word that opens or closes a block
-    pub open_not : plain (slice w.from w.to t) ≡ false → Turned t q (opening t n) n (Err (record { place = w.from }))
-    unfolding step
-    open_not b =
-        record {
-          is = λ f.
-              rw (names_some t n.places n.depth some)
-              (turn_wrong (State.begun f (name_in t n.places (n.depth - 1) ∷ names_in t n.places (n.depth - 1))) x (rw b));
-          place = tt;
-        }
-
-  pub open_other : (x : Sign) {w : Word} → Signed t q (Ok (x, w)) → (x ≡ S.Other → ⊥) → Turned t q (opening t n) n (Err (record { place = w.from }))
-  open_other S.Begin s u = open_not s.0 (rw s.1)
-  open_other S.End s u = open_not s.0 (rw s.1)
-  open_other S.Other s u = absurd (u refl)
-
-  pub open_stop : {e : Wrong} → Stopping t q e → Turned t q (opening t n) n (Err e)
-  open_stop s = record { is = λ f. s (State.begun f (names_in t n.places n.depth)) (λ n. refl); place = tt }
+  pub open_wrong : {e : Wrong} → NextName t q (Err e) → Turned t q (opening t n) n (Err e)
+  open_wrong s = record { is = λ f. s f (names_in t n.places n.depth); place = tt }
 
 ---- Behind /end ----------------------------------------------------------------------------------------------------------------
 

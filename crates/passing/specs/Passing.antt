@@ -36,6 +36,11 @@ abbrev pub Signed : List ℕ → ℕ → Result (Sign × Word) Wrong → Type 0
 Signed t q (Ok (x, w)) = NextWord t q (Ok (Some w)) × Says (slice w.from w.to t) x
 Signed t q (Err e) = Stopping t q e
 
+-- the name of a block, behind its /begin, whatever was found before and in whatever blocks
+abbrev pub NextName : List ℕ → ℕ → Result Word Wrong → Type 0
+NextName t q (Ok w) = NextWord t q (Ok (Some w)) × (plain (slice w.from w.to t) ≡ true)
+NextName t q (Err e) = (f : Found) (ns : List Text) → reading t q (State.begun f ns) ≡ Err e
+
 -- at place q these names are held; `more` bytes of /begin stand before it
 pub record Held (t : List ℕ) (n : Names) (more q : ℕ) : Type 0 where
   pub short : length t ≤ most_text

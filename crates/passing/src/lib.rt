@@ -3,7 +3,7 @@
 
 ghost use Rattle.std.specs.Prelude.{◌≡◌, ◌-◌, ◌<◌, ◌≤◌, length};
 ghost use Rattle.passing.specs.Names.{name_in, Lying, held};
-ghost use Rattle.passing.specs.Passing.{Needed, Says, Signed, Held, Turned, inside_of, opening, closing, Passable, Passed};
+ghost use Rattle.passing.specs.Passing.{Needed, Says, Signed, NextName, Held, Turned, inside_of, opening, closing, Passable, Passed};
 
 use finding::next_word;
 use words::{Word, Wrong, same};
@@ -83,20 +83,29 @@ pub fn next_sign(t: &[u8], q: usize) -> Result<(Sign, Word), Wrong>
     Ok((sign_of(word.bytes(t)), word))
 }
 
-// The name of a block that opens, behind its /begin.
+// The name of a block, behind its /begin.
+pub fn next_name(t: &[u8], q: usize) -> Result<Word, Wrong>
+    requires { q ≤ length t.now }
+    ensures { NextName t.now q result }
+{
+    let (sign, word) = next_sign(t, q)?;
+    match sign {
+        Sign::Other => Ok(word),
+        Sign::Begin | Sign::End => Err(Wrong { place: word.from }),
+    }
+}
+
+// A block opens: its name, behind its /begin.
 fn open(t: &[u8], q: usize, names: &mut Names) -> Result<usize, Wrong>
     requires { (0 < names.old.depth) × Held t.now names.old 6 q }
     ensures { Turned t.now q (opening t.now names.old) names.new result }
 {
-    let (sign, word) = next_sign(t, q)?;
-    if sign != Sign::Other {
-        return Err(Wrong { place: word.from });
-    }
+    let word = next_name(t, q)?;
     names.hold(word);
     Ok(word.to)
 }
 
-// The name of the innermost block, behind its /end.
+// The innermost block closes: its name, behind its /end.
 fn close(t: &[u8], q: usize, names: &mut Names) -> Result<usize, Wrong>
     requires { (0 < names.old.depth) × Held t.now names.old 0 q }
     ensures { Turned t.now q (closing t.now names.old) names.new result }
