@@ -1,4 +1,5 @@
 -- The word is the innermost name, or it is wrong.
+use borrow.Author.Rules.{rules}
 use Rattle.passing.proofs.NamesLaws.{top}
 use Rattle.passing.proofs.PassingLaws.{close-on, close_other}
 use Rattle.passing.proofs.close.Goals as goal
@@ -8,7 +9,10 @@ innermost-requires c = (c.requires.0, (top _ _ _ c.requires.0 c.requires.1.lie).
 
 pub returns-else-same : goal.returns-else-same
 returns-else-same c =
-    close_other c.requires.0 c.requires.1 c.in_ok-word.ensures (rw (c.bytes.ensures, c.innermost.ensures) at c.same.ensures) c.if-same.false
+    let same = rw (c.bytes.ensures, c.innermost.ensures) at c.same.ensures in
+    search (rules, close_other)
 
 pub returns-then-same : goal.returns-then-same
-returns-then-same c = close-on c.requires.0 c.requires.1 c.in_ok-word.ensures (rw (c.bytes.ensures, c.innermost.ensures) at c.same.ensures) c.if-same.true
+returns-then-same c =
+    let same = rw (c.bytes.ensures, c.innermost.ensures) at c.same.ensures in
+    search (rules, close-on)
