@@ -18,6 +18,7 @@ pub enum Sign {
 
 // The names of the open blocks, the innermost last: where each starts and ends in the text. A name and the `/begin` before it take 7 bytes at least, so
 // 16,384 bytes open no more than 2,340 blocks.
+#[derive(Drop)]
 pub struct Names {
     pub places: [(u16, u16); 2340],
     pub depth: usize,
