@@ -1,7 +1,8 @@
 // How a text parts into words.
 #![tactic(auto)]
 
-ghost use Rattle.std.specs.Prelude.{◌≡◌};
+ghost use Rattle.std.specs.Prelude.{◌≡◌, ◌≤◌, length};
+ghost use Rattle.std.proofs.Math.Seq.{slice};
 ghost use Rattle.words.specs.Words.{same as same_text};
 
 // What starts at a place.
@@ -20,6 +21,16 @@ pub enum Start {
 pub struct Word {
     pub from: usize,
     pub to: usize,
+}
+
+impl Word {
+    // Its bytes.
+    pub fn bytes(self, t: &[u8]) -> &[u8]
+        requires { (self.from ≤ self.to) × (self.to ≤ length t.now) }
+        ensures { result.now ≡ slice self.from self.to t.now }
+    {
+        &t[self.from..self.to]
+    }
 }
 
 // The place of a text that is wrong: the first word that cannot stand there, or the text's length where it stops early.
