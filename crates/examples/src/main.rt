@@ -2,85 +2,64 @@
 // document and Ask 3 say.
 #![tactic(auto)]
 
-use packet::{Counter, Reading, Writing};
+use packet::{Counter, Refusal, Rows, Written};
 use std::io::{Print, Result};
+use std::result;
 use usb::Setting;
 
-fn say(rt: &HostRuntime, text: &[u8]) -> Result<()> {
-    rt.stdout().write_all(text)
-}
-
-fn number(rt: &HostRuntime, n: u32) -> Result<()> {
-    print!(rt; " {n}")
-}
-
-fn refused(rt: &HostRuntime, n: u32, place: u32) -> Result<()> {
-    say(rt, b" refused")?;
-    number(rt, n)?;
-    number(rt, place)?;
-    say(rt, b"\n")
-}
-
-fn byte(rt: &HostRuntime, b: u8) -> Result<()> {
-    print!(rt; " {b:02x}")
-}
-
-fn bytes(rt: &HostRuntime, bs: &[u8]) -> Result<()> {
-    let mut i: usize = 0;
-    while i < bs.len() {
-        byte(rt, bs[i])?;
-        i += 1;
-    }
-    Ok(())
-}
-
 fn numbers(rt: &HostRuntime, ns: &[u32]) -> Result<()> {
-    let mut i: usize = 0;
-    while i < ns.len() {
-        number(rt, ns[i])?;
-        i += 1;
+    for n in ns {
+        print!(rt; " {n}")?;
     }
     Ok(())
 }
 
-// So many rows, five numbers each.
-fn table(rt: &HostRuntime, rows: &[u32], count: u32) -> Result<()> {
-    let end = count as usize * 5;
-    if end <= rows.len() {
-        numbers(rt, &rows[0..end])?;
-    }
-    Ok(())
+fn refused(rt: &HostRuntime, refusal: Refusal) -> Result<()> {
+    println!(rt; " refused {} {}", u32::from(refusal.reason), refusal.place)
 }
 
-fn read_told(rt: &HostRuntime, answer: Reading, rows: &[u32]) -> Result<()> {
-    match answer {
-        Reading::Rows(k, _) => {
-            say(rt, b" rows")?;
-            number(rt, k)?;
-            say(rt, b":")?;
-            table(rt, rows, k)?;
-            say(rt, b"\n")?;
+// Prints what a reading answers that is given a table.
+fn reads<F: FnOnce(&mut [u32]) -> result::Result<Rows, Refusal>>(
+    rt: &HostRuntime,
+    text: &str,
+    read: F,
+) -> Result<()>
+    requires { F.IsAlwaysCallable read }
+{
+    let mut rows = [0u32; 20];
+    print!(rt; "{text}")?;
+    match read(&mut rows) {
+        Ok(answer) => {
+            print!(rt; " rows {}:", answer.count)?;
+            numbers(
+                rt,
+                rows.get(..answer.count as usize * 5).unwrap_or(&[]),
+            )?;
+            println!(rt)
         }
-        Reading::Refused(n, place) => {
-            refused(rt, n, place)?;
-        }
+        Err(refusal) => refused(rt, refusal),
     }
-    Ok(())
 }
 
-fn write_told(rt: &HostRuntime, answer: Writing, out: &[u8]) -> Result<()> {
-    match answer {
-        Writing::Bytes(k, next) => {
-            bytes(rt, packet::part(out, 0, k))?;
-            say(rt, b" next")?;
-            number(rt, next)?;
-            say(rt, b"\n")?;
+// Prints what a writing answers that is given an output.
+fn writes<F: FnOnce(&mut [u8]) -> result::Result<Written, Refusal>>(
+    rt: &HostRuntime,
+    text: &str,
+    write: F,
+) -> Result<()>
+    requires { F.IsAlwaysCallable write }
+{
+    let mut out = [0u8; 32];
+    print!(rt; "{text}")?;
+    match write(&mut out) {
+        Ok(answer) => {
+            for b in packet::part(&out, 0, answer.bytes) {
+                print!(rt; " {b:02x}")?;
+            }
+            println!(rt; " next {}", answer.next)
         }
-        Writing::Refused(n, place) => {
-            refused(rt, n, place)?;
-        }
+        Err(refusal) => refused(rt, refusal),
     }
-    Ok(())
 }
 
 // U1 in a packing of choice.
@@ -106,16 +85,13 @@ fn u2() -> Setting {
     }
 }
 
-fn usb_reads(rt: &HostRuntime, text: &[u8], s: Setting, t: &[u8], c: Counter) -> Result<()> {
-    let mut rows = [0u32; 20];
-    say(rt, text)?;
-    let answer = usb_reader::read(s, t, c, &mut rows);
-    read_told(rt, answer, &rows)
+fn usb_reads(rt: &HostRuntime, text: &str, s: Setting, t: &[u8], c: Counter) -> Result<()> {
+    reads(rt, text, |rows| usb_reader::read(s, t, c, rows))
 }
 
 fn usb_writes(
     rt: &HostRuntime,
-    text: &[u8],
+    text: &str,
     s: Setting,
     packets: &[u8],
     lengths: &[u32],
@@ -123,10 +99,9 @@ fn usb_writes(
     fill: u8,
     full: bool,
 ) -> Result<()> {
-    let mut out = [0u8; 32];
-    say(rt, text)?;
-    let answer = usb_writer::write(s, packets, lengths, first, fill, full, &mut out);
-    write_told(rt, answer, &out)
+    writes(rt, text, |out| {
+        usb_writer::write(s, packets, lengths, first, fill, full, out)
+    })
 }
 
 fn expecting(expected: u32) -> Counter {
@@ -138,7 +113,7 @@ fn usb_writer_examples(rt: &HostRuntime) -> Result<()> {
     let one_three = [1u32, 3];
     usb_writes(
         rt,
-        b"U1 writes [FF], [01 02 03]:",
+        "U1 writes [FF], [01 02 03]:",
         u1(1),
         &two,
         &one_three,
@@ -148,7 +123,7 @@ fn usb_writer_examples(rt: &HostRuntime) -> Result<()> {
     )?;
     usb_writes(
         rt,
-        b"U1 filled up:",
+        "U1 filled up:",
         u1(1),
         &two,
         &one_three,
@@ -158,7 +133,7 @@ fn usb_writer_examples(rt: &HostRuntime) -> Result<()> {
     )?;
     usb_writes(
         rt,
-        b"U2 writes [10], [20]:",
+        "U2 writes [10], [20]:",
         u2(),
         &[0x10, 0x20],
         &[1, 1],
@@ -168,7 +143,7 @@ fn usb_writer_examples(rt: &HostRuntime) -> Result<()> {
     )?;
     usb_writes(
         rt,
-        b"U2 writes [10 11 12 13 14], [20]:",
+        "U2 writes [10 11 12 13 14], [20]:",
         u2(),
         &[0x10, 0x11, 0x12, 0x13, 0x14, 0x20],
         &[5, 1],
@@ -182,22 +157,22 @@ fn usb_counter_examples(rt: &HostRuntime) -> Result<()> {
     let twelve = b"\x01\xFE\xFF\xEE\x03\xFF\x01\x02\x03\xEE\xEE\xEE";
     usb_reads(
         rt,
-        b"U1 reads the 12 bytes, fresh:",
+        "U1 reads the 12 bytes, fresh:",
         u1(1),
         twelve,
         Counter::fresh(),
     )?;
-    usb_reads(rt, b"250 expected:", u1(1), twelve, expecting(250))?;
+    usb_reads(rt, "250 expected:", u1(1), twelve, expecting(250))?;
     usb_reads(
         rt,
-        b"255 expected, 0 received:",
+        "255 expected, 0 received:",
         u1(1),
         &[0x01, 0x00, 0xFF, 0xEE],
         expecting(255),
     )?;
     usb_reads(
         rt,
-        b"0 expected, 255 received:",
+        "0 expected, 255 received:",
         u1(1),
         &[0x01, 0xFF, 0xFF, 0xEE],
         expecting(0),
@@ -206,26 +181,26 @@ fn usb_counter_examples(rt: &HostRuntime) -> Result<()> {
 
 fn usb_reader_examples(rt: &HostRuntime) -> Result<()> {
     let zero = [0x00u8, 0x07, 0x09, 0x09];
-    usb_reads(rt, b"U1 reads 00 07 09 09:", u1(1), &zero, Counter::fresh())?;
-    usb_reads(rt, b"single:", u1(0), &zero, Counter::fresh())?;
-    usb_reads(rt, b"empty, single:", u1(0), &[], Counter::fresh())?;
-    usb_reads(rt, b"empty, multiple:", u1(1), &[], Counter::fresh())?;
-    usb_reads(rt, b"empty, streaming:", u1(2), &[], Counter::fresh())
+    usb_reads(rt, "U1 reads 00 07 09 09:", u1(1), &zero, Counter::fresh())?;
+    usb_reads(rt, "single:", u1(0), &zero, Counter::fresh())?;
+    usb_reads(rt, "empty, single:", u1(0), &[], Counter::fresh())?;
+    usb_reads(rt, "empty, multiple:", u1(1), &[], Counter::fresh())?;
+    usb_reads(rt, "empty, streaming:", u1(2), &[], Counter::fresh())
 }
 
 fn usb_refusal_examples(rt: &HostRuntime) -> Result<()> {
     usb_reads(
         rt,
-        b"U1 reads 01 00 FF:",
+        "U1 reads 01 00 FF:",
         u1(1),
         &[0x01, 0x00, 0xFF],
         Counter::fresh(),
     )?;
-    usb_reads(rt, b"41 00:", u1(1), &[0x41, 0x00], Counter::fresh())?;
-    usb_reads(rt, b"40 00:", u1(1), &[0x40, 0x00], Counter::fresh())?;
+    usb_reads(rt, "41 00:", u1(1), &[0x41, 0x00], Counter::fresh())?;
+    usb_reads(rt, "40 00:", u1(1), &[0x40, 0x00], Counter::fresh())?;
     usb_reads(
         rt,
-        b"U2 reads 05 00 AA AA 10 11 12 13:",
+        "U2 reads 05 00 AA AA 10 11 12 13:",
         u2(),
         &[0x05, 0x00, 0xAA, 0xAA, 0x10, 0x11, 0x12, 0x13],
         Counter::fresh(),
@@ -243,51 +218,49 @@ fn r(header: u32, align: u32) -> flexray::Setting {
     }
 }
 
-fn flexray_reads(rt: &HostRuntime, text: &[u8], s: flexray::Setting, t: &[u8]) -> Result<()> {
-    let mut rows = [0u32; 20];
-    say(rt, text)?;
-    let answer = flexray_reader::read(s, t, Counter::fresh(), &mut rows);
-    read_told(rt, answer, &rows)
+fn flexray_reads(rt: &HostRuntime, text: &str, s: flexray::Setting, t: &[u8]) -> Result<()> {
+    reads(rt, text, |rows| {
+        flexray_reader::read(s, t, Counter::fresh(), rows)
+    })
 }
 
 fn flexray_writes(
     rt: &HostRuntime,
-    text: &[u8],
+    text: &str,
     s: flexray::Setting,
     packets: &[u8],
     lengths: &[u32],
 ) -> Result<()> {
-    let mut out = [0u8; 32];
-    say(rt, text)?;
-    let answer = flexray_writer::write(s, packets, lengths, 0, 0xEE, &mut out);
-    write_told(rt, answer, &out)
+    writes(rt, text, |out| {
+        flexray_writer::write(s, packets, lengths, 0, 0xEE, out)
+    })
 }
 
 fn flexray_examples(rt: &HostRuntime) -> Result<()> {
-    flexray_writes(rt, b"R writes [FF]:", r(5, 2), &[0xFF], &[1])?;
+    flexray_writes(rt, "R writes [FF]:", r(5, 2), &[0xFF], &[1])?;
     flexray_writes(
         rt,
-        b"R writes [01 02], [FF]:",
+        "R writes [01 02], [FF]:",
         r(5, 2),
         &[0x01, 0x02, 0xFF],
         &[2, 1],
     )?;
     flexray_reads(
         rt,
-        b"R reads 07 01 FF EE:",
+        "R reads 07 01 FF EE:",
         r(5, 2),
         &[0x07, 0x01, 0xFF, 0xEE],
     )?;
     flexray_writes(
         rt,
-        b"header 0 writes [FF 00]:",
+        "header 0 writes [FF 00]:",
         r(0, 1),
         &[0xFF, 0x00],
         &[2],
     )?;
     flexray_reads(
         rt,
-        b"header 0 reads it:",
+        "header 0 reads it:",
         r(0, 1),
         &[0x07, 0xFF, 0x00, 0xEE],
     )
@@ -301,53 +274,51 @@ fn d() -> udp::Setting {
     }
 }
 
-fn udp_reads(rt: &HostRuntime, text: &[u8], t: &[u8]) -> Result<()> {
-    let mut rows = [0u32; 20];
-    say(rt, text)?;
-    let answer = udp_reader::read(d(), t, Counter::fresh(), &mut rows);
-    read_told(rt, answer, &rows)
+fn udp_reads(rt: &HostRuntime, text: &str, t: &[u8]) -> Result<()> {
+    reads(rt, text, |rows| {
+        udp_reader::read(d(), t, Counter::fresh(), rows)
+    })
 }
 
 fn udp_writes(
     rt: &HostRuntime,
-    text: &[u8],
+    text: &str,
     packets: &[u8],
     lengths: &[u32],
     first: u32,
 ) -> Result<()> {
-    let mut out = [0u8; 32];
-    say(rt, text)?;
-    let answer = udp_writer::write(d(), packets, lengths, first, &mut out);
-    write_told(rt, answer, &out)
+    writes(rt, text, |out| {
+        udp_writer::write(d(), packets, lengths, first, out)
+    })
 }
 
 fn udp_examples(rt: &HostRuntime) -> Result<()> {
     let two = b"\x01\x00\xFF\xFF\xFF\x03\x00\x00\x00\x01\x02\x03";
     udp_writes(
         rt,
-        b"D writes [FF], [01 02 03]:",
+        "D writes [FF], [01 02 03]:",
         &[0xFF, 0x01, 0x02, 0x03],
         &[1, 3],
         65535,
     )?;
-    udp_reads(rt, b"D reads the 12 bytes, fresh:", two)?;
-    udp_writes(rt, b"D writes no packets:", &[], &[], 7)?;
-    udp_reads(rt, b"D reads no bytes:", &[])
+    udp_reads(rt, "D reads the 12 bytes, fresh:", two)?;
+    udp_writes(rt, "D writes no packets:", &[], &[], 7)?;
+    udp_reads(rt, "D reads no bytes:", &[])
 }
 
 fn udp_refusal_examples(rt: &HostRuntime) -> Result<()> {
     udp_reads(
         rt,
-        b"LEN zero behind a message:",
+        "LEN zero behind a message:",
         &[0x01, 0x00, 0x07, 0x00, 0xFF, 0x00, 0x00, 0x08, 0x00],
     )?;
     udp_reads(
         rt,
-        b"three bytes left over:",
+        "three bytes left over:",
         &[0x01, 0x00, 0x07, 0x00, 0xFF, 0x01, 0x00, 0x08],
     )?;
-    udp_reads(rt, b"LEN over X:", &[0x41, 0x00, 0x07, 0x00])?;
-    udp_reads(rt, b"a packet cut:", &[0x02, 0x00, 0x07, 0x00, 0xFF])
+    udp_reads(rt, "LEN over X:", &[0x41, 0x00, 0x07, 0x00])?;
+    udp_reads(rt, "a packet cut:", &[0x02, 0x00, 0x07, 0x00, 0xFF])
 }
 
 fn main(rt: HostRuntime) -> Result<()> {

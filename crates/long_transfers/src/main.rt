@@ -3,78 +3,42 @@
 // A transfer that is longer by one byte is refused.
 #![tactic(auto)]
 
-use check::same;
-use packet::{Counter, Reading, Writing, part};
+use packet::{Counter, Refusal, Rows, part};
 use std::io::{Print, Result};
+use std::result;
 use usb::Setting;
 use usb_reader::read;
 use usb_writer::write;
 
-fn print(rt: &HostRuntime, n: u32, after: u8) -> Result<()> {
-    print!(rt; "{n}")?;
-    rt.stdout().write_all(&[after])
+fn refused(rt: &HostRuntime, refusal: Refusal) -> Result<()> {
+    println!(rt; "{} {}", u32::from(refusal.reason), refusal.place)
 }
 
-// The packets' bytes: none is like its neighbours.
-fn make(packets: &mut [u8]) {
-    let mut i: usize = 0;
-    while i < packets.len() {
-        packets[i] = (i % 251) as u8;
-        i += 1;
-    }
-}
-
-// Whether the packet of a row is the packet of so many bytes that was given at its index.
-fn kept(t: &[u8], rows: &[u32], packets: &[u8], i: usize) -> bool {
-    if i < 4096 {
-        if i * 5 + 1 < rows.len() {
-            let from = i * 60;
-            let to = from + 60;
-            if to <= packets.len() {
-                return same(part(t, rows[i * 5], rows[i * 5 + 1]), &packets[from..to]);
-            }
-        }
-    }
-    false
-}
-
-fn all_kept(t: &[u8], rows: &[u32], packets: &[u8]) -> bool {
-    let mut i: usize = 0;
-    while i < 4096 {
-        if !kept(t, rows, packets, i) {
-            return false;
-        }
-        i += 1;
-    }
-    true
+// Whether the packets of the rows are these, of 60 bytes each.
+fn kept(t: &[u8], rows: &[u32], packets: &[u8]) -> bool {
+    rows.chunks_exact(5)
+        .zip(packets.chunks_exact(60))
+        .all(|(row, packet)| part(t, row[0], row[1]) == packet)
 }
 
 // What was read of a transfer: its row count, its last row, and whether the packets were kept; or its refusal.
 fn show_read(
     rt: &HostRuntime,
-    answer: Reading,
+    answer: result::Result<Rows, Refusal>,
     t: &[u8],
     rows: &[u32],
     packets: &[u8],
 ) -> Result<()> {
     match answer {
-        Reading::Rows(k, _) => {
-            print(rt, k, b' ')?;
-            if 20480 <= rows.len() {
-                print(rt, rows[20475], b' ')?;
-                print(rt, rows[20476], b' ')?;
-                print(rt, rows[20477], b' ')?;
-                print(rt, rows[20478], b' ')?;
-                print(rt, rows[20479], b' ')?;
+        Ok(read) => {
+            print!(rt; "{} ", read.count)?;
+            for n in rows.get(20475..20480).unwrap_or(&[]) {
+                print!(rt; "{n} ")?;
             }
-            print(rt, all_kept(t, rows, packets) as u32, b'\n')?;
+            println!(rt; "{}", kept(t, rows, packets) as u32)
         }
-        Reading::Refused(n, place) => {
-            print(rt, n, b' ')?;
-            print(rt, place, b'\n')?;
-        }
+        Err(refusal) => refused(rt, refusal),
     }
-    Ok(())
 }
 
 // Writes the packets and reads them back.
@@ -95,21 +59,16 @@ fn run(
         longest: 60,
         direction: 0,
     };
-    print(rt, packing, b' ')?;
+    print!(rt; "{packing} ")?;
     match write(s, packets, lengths, 61440, 0xEE, false, out) {
-        Writing::Bytes(k, next) => {
-            print(rt, k, b' ')?;
-            print(rt, next, b' ')?;
-            let t = part(out, 0, k);
+        Ok(written) => {
+            print!(rt; "{} {} ", written.bytes, written.next)?;
+            let t = part(out, 0, written.bytes);
             let answer = read(s, t, Counter::fresh(), rows);
-            show_read(rt, answer, t, rows, packets)?;
+            show_read(rt, answer, t, rows, packets)
         }
-        Writing::Refused(n, place) => {
-            print(rt, n, b' ')?;
-            print(rt, place, b'\n')?;
-        }
+        Err(refusal) => refused(rt, refusal),
     }
-    Ok(())
 }
 
 // A transfer of one byte more.
@@ -131,7 +90,10 @@ fn main(rt: HostRuntime) -> Result<()> {
     let lengths = [60u32; 4096];
     let mut out = [0u8; 262145];
     let mut rows = [0u32; 20480];
-    make(&mut packets);
+    // None is like its neighbours.
+    for (i, b) in packets.iter_mut().enumerate() {
+        *b = (i % 251) as u8;
+    }
     run(&rt, 0, 64, &packets, &lengths, &mut out, &mut rows)?;
     run(&rt, 1, 128, &packets, &lengths, &mut out, &mut rows)?;
     run(&rt, 2, 72, &packets, &lengths, &mut out, &mut rows)?;

@@ -4,6 +4,7 @@
 ghost use Rattle.std.specs.Prelude.{◌≡◌, not, eqb};
 ghost use Rattle.packet.specs.Kind.{kind_of};
 ghost use Rattle.packet.specs.Part.{check_of};
+ghost use Rattle.packet.specs.Said.{read_said, write_said};
 ghost use Rattle.description.specs.Reading.{settings_of};
 ghost use Rattle.flexray.specs.Reading.{read_of as flexray_read_of};
 ghost use Rattle.flexray.specs.Writing.{write_of as flexray_write_of};
@@ -13,15 +14,14 @@ ghost use Rattle.usb.specs.Reading.{read_of as usb_read_of};
 ghost use Rattle.usb.specs.Writing.{write_of as usb_write_of};
 ghost use Rattle.plumagemud.specs.Result.{read_result, write_result, check_result, zero_setting, settings_result, Reads, Writes};
 
-use description::Described;
 use flexray::Setting as FlexRay;
-use packet::{Checked, Counter, Reading, Writing};
+use packet::{Counter, Refusal, Rows, Written};
 use udp::Setting as Udp;
 use usb::Setting as Usb;
 
 // Number 0: value is the row count. Any other number: a refusal, value is its place, and counter is as it was given.
 #[repr(C)]
-#[derive(Clone, Copy)]
+#[derive(Clone, Copy, Debug, PartialEq, Eq)]
 pub struct ReadResult {
     pub number: u32,
     pub value: u32,
@@ -30,7 +30,7 @@ pub struct ReadResult {
 
 // Number 0: value is the bytes written and counter the next one. Any other number: value is the place, and counter is as it was given.
 #[repr(C)]
-#[derive(Clone, Copy)]
+#[derive(Clone, Copy, Debug, PartialEq, Eq)]
 pub struct WriteResult {
     pub number: u32,
     pub value: u32,
@@ -39,7 +39,7 @@ pub struct WriteResult {
 
 // Number 0: the part is inside.
 #[repr(C)]
-#[derive(Clone, Copy)]
+#[derive(Clone, Copy, Debug, PartialEq, Eq)]
 pub struct CheckResult {
     pub number: u32,
     pub place: u32,
@@ -47,7 +47,7 @@ pub struct CheckResult {
 
 // Number 0: both settings. Any other number: a refusal, place is its place, and the twelve numbers are 0.
 #[repr(C)]
-#[derive(Clone, Copy)]
+#[derive(Clone, Copy, Debug, PartialEq, Eq)]
 pub struct SettingsResult {
     pub number: u32,
     pub place: u32,
@@ -55,35 +55,35 @@ pub struct SettingsResult {
     pub resdaq: Usb,
 }
 
-fn told_read(c: Counter, r: Reading) -> ReadResult
-    ensures { result ≡ read_result c r }
+fn told_read(c: Counter, r: Result<Rows, Refusal>) -> ReadResult
+    ensures { result ≡ read_result c (read_said r) }
 {
     match r {
-        Reading::Rows(count, state) => ReadResult {
+        Ok(rows) => ReadResult {
             number: 0,
-            value: count,
-            counter: state,
+            value: rows.count,
+            counter: rows.state,
         },
-        Reading::Refused(number, place) => ReadResult {
-            number: number,
-            value: place,
+        Err(unread) => ReadResult {
+            number: u32::from(unread.reason),
+            value: unread.place,
             counter: c,
         },
     }
 }
 
-fn told_write(first: u32, r: Writing) -> WriteResult
-    ensures { result ≡ write_result first r }
+fn told_write(first: u32, r: Result<Written, Refusal>) -> WriteResult
+    ensures { result ≡ write_result first (write_said r) }
 {
     match r {
-        Writing::Bytes(count, next) => WriteResult {
+        Ok(written) => WriteResult {
             number: 0,
-            value: count,
-            counter: next,
+            value: written.bytes,
+            counter: written.next,
         },
-        Writing::Refused(number, place) => WriteResult {
-            number: number,
-            value: place,
+        Err(unwritten) => WriteResult {
+            number: u32::from(unwritten.reason),
+            value: unwritten.place,
             counter: first,
         },
     }
@@ -106,17 +106,17 @@ pub fn xcp_usb_settings(text: &[u8], longest: u32) -> SettingsResult
     ensures { result ≡ settings_result (settings_of text.now longest) }
 {
     match settings::settings(text, longest) {
-        Described::Both(cmd, res) => SettingsResult {
+        Ok(both) => SettingsResult {
             number: 0,
             place: 0,
-            cmdstim: cmd,
-            resdaq: res,
+            cmdstim: both.cmdstim,
+            resdaq: both.resdaq,
         },
-        Described::Refused(number, at) => {
+        Err(undescribed) => {
             let none = no_setting();
             SettingsResult {
-                number: number,
-                place: at,
+                number: u32::from(undescribed.reason),
+                place: undescribed.place,
                 cmdstim: none,
                 resdaq: none,
             }
@@ -193,13 +193,13 @@ pub fn xcp_part_check(input: &[u8], place: u32, length: u32) -> CheckResult
     ensures { result ≡ check_result (check_of input.now place length) }
 {
     match packet::part_check(input, place, length) {
-        Checked::Inside => CheckResult {
+        Ok(()) => CheckResult {
             number: 0,
             place: 0,
         },
-        Checked::Refused(number, place) => CheckResult {
-            number: number,
-            place: place,
+        Err(refusal) => CheckResult {
+            number: u32::from(refusal.reason),
+            place: refusal.place,
         },
     }
 }
@@ -207,5 +207,5 @@ pub fn xcp_part_check(input: &[u8], place: u32, length: u32) -> CheckResult
 pub fn xcp_kind(direction: u32, packet: &[u8]) -> u32
     ensures { result ≡ kind_of direction packet.now }
 {
-    packet::kind(direction, packet)
+    packet::kind(direction, packet).map_or(0, u32::from)
 }
