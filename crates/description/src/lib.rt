@@ -1,6 +1,9 @@
 // The XCP_ON_USB block of a description file: what it says, and what is answered to a text.
 #![tactic(auto)]
 
+ghost use Rattle.std.specs.Prelude.{◌≡◌};
+ghost use Rattle.description.specs.Standing.{setting as setting_of};
+
 use usb::Setting;
 
 // What an endpoint block says: data packet size M, packing, alignment in bytes.
@@ -9,6 +12,22 @@ pub struct Endpoint {
     pub datapacket: u32,
     pub packing: u32,
     pub align: u32,
+}
+
+impl Endpoint {
+    // Its setting, with the header of its block, the longest packet and the direction.
+    pub fn setting(self, header: u32, longest: u32, direction: u32) -> Setting
+        ensures { result ≡ setting_of header longest direction self }
+    {
+        Setting {
+            header,
+            packing: self.packing,
+            align: self.align,
+            datapacket: self.datapacket,
+            longest,
+            direction,
+        }
+    }
 }
 
 // What the block says: its header, and the endpoints of CMD and STIM and of RES, ERR, DAQ, EV and SERV.

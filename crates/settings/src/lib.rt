@@ -1,39 +1,18 @@
 // The settings of a slave's endpoints, from the XCP_ON_USB block of its description file.
 #![tactic(auto)]
 
-ghost use Rattle.std.specs.Prelude.{◌≡◌, ◌<◌};
+ghost use Rattle.std.specs.Prelude.{◌≡◌};
 ghost use Rattle.usb.specs.Setting.{sound as sound_of};
-ghost use Rattle.description.specs.declared.Outcome.TheVariants as O;
-ghost use Rattle.description.specs.Standing.{setting as setting_of};
-ghost use Rattle.description.specs.Reading.{judge, settings_of};
+ghost use Rattle.description.specs.Reading.{judge, settings_of, Right};
 
 use block::read_block;
-use description::{Described, Endpoint, Outcome, Said};
-use layout::both;
+use description::{Described, Said};
 use plan::Planned;
 use usb::Setting;
 use usb_plan::plan_for;
 
-fn narrow(n: usize) -> u32
-    requires { n < 4294967296 }
-    ensures { result ≡ n }
-{
-    n as u32
-}
-
-// An endpoint's setting, with the header of its block, the longest packet and the direction.
-fn setting(header: u32, longest: u32, direction: u32, e: Endpoint) -> Setting
-    ensures { result ≡ setting_of header longest direction e }
-{
-    Setting {
-        header,
-        packing: e.packing,
-        align: e.align,
-        datapacket: e.datapacket,
-        longest,
-        direction,
-    }
-}
+// The most bytes of a text.
+const MOST_TEXT: usize = 16384;
 
 fn is_sound(s: Setting) -> bool
     ensures { result ≡ sound_of s }
@@ -46,13 +25,11 @@ fn is_sound(s: Setting) -> bool
 
 // Both settings that a block says, if they are sound.
 fn judged(said: Said, longest: u32) -> Described
-    ensures { result ≡ judge longest (O.Right said) }
+    ensures { result ≡ judge longest (Right said) }
 {
-    let c = said.cmd;
-    let r = said.res;
-    let cmd = setting(said.header, longest, 1, c);
-    let res = setting(said.header, longest, 0, r);
-    if both(is_sound(cmd), is_sound(res)) {
+    let cmd = said.cmd.setting(said.header, longest, 1);
+    let res = said.res.setting(said.header, longest, 0);
+    if is_sound(cmd) && is_sound(res) {
         return Described::Both(cmd, res);
     }
     Described::Refused(1, 0)
@@ -62,11 +39,11 @@ fn judged(said: Said, longest: u32) -> Described
 pub fn settings(t: &[u8], longest: u32) -> Described
     ensures { result ≡ settings_of t.now longest }
 {
-    if t.len() > 16384 {
+    if t.len() > MOST_TEXT {
         return Described::Refused(2, 0);
     }
     match read_block(t) {
-        Outcome::Right(said) => judged(said, longest),
-        Outcome::Wrong(p) => Described::Refused(9, narrow(p)),
+        Ok(said) => judged(said, longest),
+        Err(wrong) => Described::Refused(9, wrong.place as u32),
     }
 }
