@@ -16,8 +16,7 @@ use Rattle.words.specs.Spaced.{Spaced, texts}
 use Rattle.words.proofs.PartLaws.{parts, parting-is, parts_unique}
 use Rattle.words.proofs.SpacedLaws.{spaced}
 use Rattle.usb.specs.declared.Setting.{Setting}
-use Rattle.description.specs.declared.Described.{Described}
-use Rattle.description.specs.declared.Described.TheVariants as D
+use Rattle.description.specs.Described.{Described, Described as D}
 use Rattle.keywords.specs.Tables.{Text}
 use Rattle.description.specs.declared.Said.{Said}
 use Rattle.description.specs.Block.{Block}

@@ -6,7 +6,7 @@ use mathlib.Core.List.{List, [], ◌∷◌, ◌++◌}
 use Rattle.words.specs.Words.{ascii}
 use Rattle.words.specs.Parting.{parting, pieces, piece}
 use Rattle.usb.specs.Setting.{sound, headers}
-use Rattle.description.specs.declared.Described.TheVariants as D
+use Rattle.description.specs.Described.{Described as D}
 use Rattle.keywords.specs.Tables.{number, header, transfer, packing, alignment}
 use Rattle.description.specs.Reading.{step, reading, settings_of}
 

@@ -1,3 +1,4 @@
 pub mod Block
-pub mod Standing
+pub mod Described
 pub mod Reading
+pub mod Standing

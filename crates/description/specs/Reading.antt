@@ -4,8 +4,7 @@ use Rattle.std.proofs.Math.Option.{Option, none, some}
 use Rattle.words.specs.declared.Wrong.{Wrong as Place}
 use Rattle.words.specs.Words.{Word, same}
 use Rattle.words.specs.Parting.{parting}
-use Rattle.description.specs.declared.Described.{Described}
-use Rattle.description.specs.declared.Described.TheVariants as D
+use Rattle.description.specs.Described.{Described, Described as D}
 use Rattle.description.specs.declared.Endpoint.{Endpoint}
 use Rattle.description.specs.declared.Said.{Said}
 use Rattle.keywords.specs.declared.Side.{Side}

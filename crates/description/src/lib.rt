@@ -38,9 +38,9 @@ pub struct Said {
     pub res: Endpoint,
 }
 
-// The settings of the CMD/STIM and of the RES/DAQ endpoint; or a refusal's number and place.
-#[derive(Clone, Copy)]
-pub enum Described {
-    Both(Setting, Setting),
-    Refused(u32, u32),
+// The settings of the CMD/STIM and of the RES/DAQ endpoint.
+#[derive(Clone, Copy, Debug, PartialEq, Eq)]
+pub struct Both {
+    pub cmdstim: Setting,
+    pub resdaq: Setting,
 }

@@ -1,7 +1,6 @@
 -- What a C caller gets: the numbers and values of an answer (packet's Answer and Part), as the structs of include/plumagemud.h.
 use Rattle.std.specs.Prelude.{ℕ, ◌≡◌, List}
-use Rattle.description.specs.declared.Described.{Described}
-use Rattle.description.specs.declared.Described.TheVariants as D
+use Rattle.description.specs.Described.{Described, Described as D}
 use Rattle.packet.specs.Part.{Checked}
 use Rattle.packet.specs.declared.Counter.{Counter}
 use Rattle.packet.specs.Reading.{Reading}

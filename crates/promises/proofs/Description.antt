@@ -21,8 +21,7 @@ use Rattle.words.specs.Words.{same}
 use Rattle.words.specs.Spaced.{Spaced}
 use Rattle.keywords.specs.declared.Side.{Side}
 use Rattle.keywords.specs.Tables.{Text, begin, end, xcp_on_usb, name}
-use Rattle.description.specs.declared.Described.{Described}
-use Rattle.description.specs.declared.Described.TheVariants as D
+use Rattle.description.specs.Described.{Described, Described as D}
 use Rattle.description.specs.declared.Endpoint.{Endpoint}
 use Rattle.description.specs.declared.Said.{Said}
 use Rattle.description.specs.Block.{Block}

@@ -10,8 +10,7 @@ use Rattle.words.specs.Words.{ascii}
 use Rattle.words.specs.Parting.{parting, pieces, piece}
 use Rattle.usb.specs.Setting.{sound, headers}
 use Rattle.keywords.specs.Tables.{number, header, transfer, packing, alignment}
-use Rattle.description.specs.declared.Described.{Described}
-use Rattle.description.specs.declared.Described.TheVariants as D
+use Rattle.description.specs.Described.{Described, Described as D}
 use Rattle.description.specs.Reading.{step, reading, settings_of}
 use Rattle.promises.proofs.Description.{reads}
 use Rattle.promises.proofs.Starred.{usb, Example, example}

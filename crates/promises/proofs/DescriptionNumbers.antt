@@ -5,7 +5,7 @@ use mathlib.Core.Path.{◌≡◌, sym, ap, ◌∙◌, subst₂}
 use mathlib.Core.Logic.{◌↔◌}
 use mathlib.Core.List.{List}
 use Rattle.usb.specs.declared.Setting.{Setting}
-use Rattle.description.specs.declared.Described.{Described}
+use Rattle.description.specs.Described.{Described}
 use Rattle.description.specs.Standing.{Refusal, Accept}
 use Rattle.description.specs.Reading.{settings_of}
 use Rattle.description.proofs.AnswerLaws.{Answered, answered, answer-is}

@@ -14,7 +14,7 @@ use Rattle.words.specs.Words.{Word, Parts}
 use Rattle.words.specs.Spaced.{texts}
 use Rattle.words.proofs.PartLaws.{parts_unique}
 use Rattle.keywords.specs.Tables.{Text}
-use Rattle.description.specs.declared.Described.TheVariants as D
+use Rattle.description.specs.Described.{Described as D}
 use Rattle.description.specs.declared.Outcome.{Outcome}
 use Rattle.description.specs.declared.Outcome.TheVariants as O
 use Rattle.description.specs.declared.Said.{Said}

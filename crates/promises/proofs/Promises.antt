@@ -38,8 +38,7 @@ use Rattle.words.specs.Parting.{parting}
 use Rattle.words.specs.Spaced.{Spaced}
 use Rattle.words.proofs.PartLaws as Parting
 use Rattle.keywords.specs.Tables.{Text}
-use Rattle.description.specs.declared.Described.{Described}
-use Rattle.description.specs.declared.Described.TheVariants as D
+use Rattle.description.specs.Described.{Described, Described as D}
 use Rattle.description.specs.declared.Said.{Said}
 use Rattle.description.specs.Block.{Block}
 use Rattle.description.specs.Standing.{Stops, Describes, Refusal, Accept, cmd_setting, res_setting}

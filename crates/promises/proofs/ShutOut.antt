@@ -17,8 +17,7 @@ use Rattle.usb.specs.declared.Setting as UsbSetting
 use Rattle.usb.specs.Reading as UsbReading
 use Rattle.usb.specs.Writing as UsbWriting
 use Rattle.words.specs.Words.{ascii}
-use Rattle.description.specs.declared.Described.{Described}
-use Rattle.description.specs.declared.Described.TheVariants as D
+use Rattle.description.specs.Described.{Described, Described as D}
 use Rattle.flexray.specs.declared.Setting as FlexRaySetting
 use Rattle.flexray.specs.Reading as FlexRayReading
 use Rattle.flexray.specs.Writing as FlexRayWriting

@@ -7,8 +7,7 @@ use lib.ListN.{length}
 use borrow.Author.Tests.{lt-ltb, le-ltb}
 use Rattle.std.specs.Prelude.{Ok, Err}
 use Rattle.words.specs.declared.Wrong.{Wrong}
-use Rattle.description.specs.declared.Described.{Described}
-use Rattle.description.specs.declared.Described.TheVariants as D
+use Rattle.description.specs.Described.{Described, Described as D}
 use Rattle.description.specs.declared.Said.{Said}
 use Rattle.description.specs.Standing.{most_text}
 use Rattle.description.specs.Reading.{Outcome, State, judge, reading, settings_of}

@@ -3,11 +3,12 @@
 
 ghost use Rattle.std.specs.Prelude.{◌≡◌};
 ghost use Rattle.usb.specs.Setting.{sound as sound_of};
+ghost use Rattle.description.specs.Described.{described_said};
 ghost use Rattle.description.specs.Reading.{judge, settings_of, Right};
 
 use block::read_block;
-use description::{Described, Said};
-use plan::Planned;
+use description::{Both, Said};
+use packet::{Reason, Refusal};
 use usb::Setting;
 use usb_plan::plan_for;
 
@@ -17,33 +18,30 @@ const MOST_TEXT: usize = 16384;
 fn is_sound(s: Setting) -> bool
     ensures { result ≡ sound_of s }
 {
-    match plan_for(s) {
-        Planned::Sound(_) => true,
-        Planned::Unsound => false,
-    }
+    plan_for(s).is_some()
 }
 
 // Both settings that a block says, if they are sound.
-fn judged(said: Said, longest: u32) -> Described
-    ensures { result ≡ judge longest (Right said) }
+fn judged(said: Said, longest: u32) -> Result<Both, Refusal>
+    ensures { described_said result ≡ judge longest (Right said) }
 {
-    let cmd = said.cmd.setting(said.header, longest, 1);
-    let res = said.res.setting(said.header, longest, 0);
-    if is_sound(cmd) && is_sound(res) {
-        return Described::Both(cmd, res);
+    let cmdstim = said.cmd.setting(said.header, longest, 1);
+    let resdaq = said.res.setting(said.header, longest, 0);
+    if is_sound(cmdstim) && is_sound(resdaq) {
+        return Ok(Both { cmdstim, resdaq });
     }
-    Described::Refused(1, 0)
+    Err(Refusal::whole(Reason::Unsound))
 }
 
 // The settings of the CMD/STIM and of the RES/DAQ endpoint that a text of at most 16,384 bytes says. The longest packet is the caller's.
-pub fn settings(t: &[u8], longest: u32) -> Described
-    ensures { result ≡ settings_of t.now longest }
+pub fn settings(t: &[u8], longest: u32) -> Result<Both, Refusal>
+    ensures { described_said result ≡ settings_of t.now longest }
 {
     if t.len() > MOST_TEXT {
-        return Described::Refused(2, 0);
+        return Err(Refusal::whole(Reason::Mismatch));
     }
     match read_block(t) {
         Ok(said) => judged(said, longest),
-        Err(wrong) => Described::Refused(9, wrong.place as u32),
+        Err(wrong) => Err(Refusal::at(Reason::Misplaced, wrong.place)),
     }
 }

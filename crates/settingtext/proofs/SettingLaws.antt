@@ -13,8 +13,7 @@ use Rattle.keywords.specs.declared.Meant.TheVariants.{Nothing, Value}
 use Rattle.keywords.specs.Saying.{told}
 use Rattle.keywords.specs.Tables.{based}
 use Rattle.usb.specs.declared.Setting.{Setting}
-use Rattle.description.specs.declared.Described.{Described}
-use Rattle.description.specs.declared.Described.TheVariants as D
+use Rattle.description.specs.Described.{Described, Described as D}
 use Rattle.description.specs.Reading.{settings_of}
 use Rattle.spelling.specs.Put.{Puts, Reports}
 use Rattle.spelling.specs.Text.{refused_text}

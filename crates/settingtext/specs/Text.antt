@@ -6,8 +6,7 @@ use Rattle.keywords.specs.declared.Meant.{Meant}
 use Rattle.keywords.specs.declared.Meant.TheVariants.{Nothing, Value}
 use Rattle.keywords.specs.Tables.{based}
 use Rattle.usb.specs.declared.Setting.{Setting}
-use Rattle.description.specs.declared.Described.{Described}
-use Rattle.description.specs.declared.Described.TheVariants as D
+use Rattle.description.specs.Described.{Described, Described as D}
 use Rattle.description.specs.Reading.{settings_of}
 use Rattle.spelling.specs.Text.{word, refused_text}
 
