@@ -118,7 +118,7 @@ fn comment_end(t: &[u8], q: usize) -> Result<usize, Wrong>
     ensures { Closed ends_comment t.now (q + 2) result }
 {
     let k = runs::without(t, q + 2, b'*');
-    first_place(t, k, |i| (t[i] == b'*') & (second(t, i) == b'/')).ok_or(Wrong { place: t.len() })
+    first_place(t, k, |i| t[i] == b'*' && second(t, i) == b'/').ok_or(Wrong { place: t.len() })
 }
 
 // The next word from place q on; none at the text's end. A text that ends inside what is not closed is wrong there.
