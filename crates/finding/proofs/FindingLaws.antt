@@ -13,15 +13,18 @@ use lib.Dec.{eqb, ltb}
 use borrow.Author.Tests.{lt-ltb, le-ltb, eqb-true, not-false}
 use Rattle.words.specs.declared.Start.{Start}
 use Rattle.words.specs.declared.Start.TheVariants as S
+use Rattle.std.specs.declared.option.Option as O
 use Rattle.std.specs.Prelude.{Some, None, Ok, Err}
+use Rattle.std.specs.Option.{unwrap_or}
+use Rattle.words.specs.declared.Wrong.{Wrong}
 use Rattle.words.specs.Words.{is_blank, start, ends, ends_word, ends_line}
 use Rattle.words.specs.Parting.{Piece, find, up_to, piece}
 use Rattle.runs.specs.Runs.{other, Run}
-use Rattle.finding.specs.Finding.{ends_comment, ends_string, Sought, Passing, Next, NextWord}
+use Rattle.finding.specs.Finding.{ends_comment, ends_string, Clear, First, FirstPlace, Sought, Closed, Passing, Next, NextWord}
 use Rattle.words.proofs.PieceLaws.{Started, started, Seen, see}
 use Rattle.words.proofs.PartLaws.{word_some, parting_eq}
 use Rattle.runs.proofs.RunLaws.{run_keeps}
-use Rattle.finding.proofs.SeekLaws.{sought_before}
+use Rattle.finding.proofs.SeekLaws.{sought_before, clear_keeps}
 use Rattle.finding.proofs.StartLaws.{start-blank}
 
 ---- The piece at a place -------------------------------------------------------------------------------------------------------
@@ -102,9 +105,6 @@ room t k e = rw (e, ← length-drop k t) (least-length (started (drop k t)))
 abbrev pub found : ℕ → ℕ → Next
 found from to = Ok (Some (record { from = from; to = to }))
 
-abbrev pub cut : ℕ → Next
-cut place = Err (record { place = place })
-
 gap_length : {u : List ℕ} {n : ℕ} → Seen u (Piece.passed n) → n ≤ length u
 gap_length (Seen.passed {s = s} {t = t} g e) = omega (arith, length-append s t)
 
@@ -141,8 +141,8 @@ module _ {t : List ℕ} {q k : ℕ} (g : Passing t q k) where
         within = (g.from, omega arith, omega (arith, length-drop k t, g.to));
       }
 
-  pass-cut : piece (drop k t) ≡ Piece.unclosed → NextWord t q (cut (length t))
-  pass-cut e = record { is = g.is ∙ parting_eq k (drop k t) ∙ rw e; within = refl }
+  pass-cut : {e : Wrong} → piece (drop k t) ≡ Piece.unclosed → e.place ≡ length t → NextWord t q (Err e)
+  pass-cut u h = record { is = g.is ∙ parting_eq k (drop k t) ∙ rw u; within = h }
 
   pub pass-blank : {b : Bool} → k < length t → b ≡ is_blank (get_or t k 0) → b ≡ true → Passing t q (k + 1)
   pass-blank h e f = pass-gap (omega arith) (piece-blank t k (start-blank t k h e f))
@@ -156,23 +156,24 @@ module _ {t : List ℕ} {q k : ℕ} (g : Passing t q k) where
       pub pass_blanks : x ≡ S.Blank → Passing t (k + 1) r → Passing t q r
       pass_blanks e h = pass_both (pass-gap (omega arith) (piece-blank t k (sym e ∙ w))) h
 
-      pub pass-comment : x ≡ S.Comment → Sought ends_comment t (k + 2) r → r < length t → Passing t q (r + 2)
-      pass-comment e s h = pass-gap (omega (arith, s.from)) (piece-comment t k (sym e ∙ w) s ∙ rw (lt-ltb r (length t) h))
-
-      pub cut-comment : x ≡ S.Comment → Sought ends_comment t (k + 2) r → length t ≤ r → NextWord t q (cut (length t))
-      cut-comment e s h = pass-cut (piece-comment t k (sym e ∙ w) s ∙ rw (le-ltb r (length t) h))
+      pub pass-comment : x ≡ S.Comment → Closed ends_comment t (k + 2) (Ok r) → Passing t q (r + 2)
+      pass-comment e s = pass-gap (omega (arith, s.0.from)) (piece-comment t k (sym e ∙ w) s.0 ∙ rw (lt-ltb r (length t) s.1))
 
       pub pass-line : x ≡ S.Line → Sought ends_line t (k + 2) r → Passing t q r
       pass-line e s = pass-gap (omega (arith, s.from)) (piece-line t k (sym e ∙ w) s)
 
-      pub pass-string : x ≡ S.Quote → Sought ends_string t (k + 1) r → r < length t → NextWord t q (found k (r + 1))
-      pass-string e s h = pass-word (omega (arith, s.from)) (piece-string t k (sym e ∙ w) s ∙ rw (lt-ltb r (length t) h))
-
-      pub cut-string : x ≡ S.Quote → Sought ends_string t (k + 1) r → length t ≤ r → NextWord t q (cut (length t))
-      cut-string e s h = pass-cut (piece-string t k (sym e ∙ w) s ∙ rw (le-ltb r (length t) h))
+      pub pass-string : x ≡ S.Quote → Closed ends_string t (k + 1) (Ok r) → NextWord t q (found k (r + 1))
+      pass-string e s = pass-word (omega (arith, s.0.from)) (piece-string t k (sym e ∙ w) s.0 ∙ rw (lt-ltb r (length t) s.1))
 
       pub pass-other : x ≡ S.Other → Sought ends_word t (k + 1) r → NextWord t q (found k r)
       pass-other e s = pass-word (omega (arith, s.from)) (piece-other t k (sym e ∙ w) (omega (arith, room t k (sym e ∙ w))) s)
+
+    module _ {y : Wrong} where
+      pub cut-comment : x ≡ S.Comment → Closed ends_comment t (k + 2) (Err y) → NextWord t q (Err y)
+      cut-comment e s = pass-cut (piece-comment t k (sym e ∙ w) s.0 ∙ rw (le-ltb y.place (length t) (omega (arith, s.1)))) s.1
+
+      pub cut-string : x ≡ S.Quote → Closed ends_string t (k + 1) (Err y) → NextWord t q (Err y)
+      cut-string e s = pass-cut (piece-string t k (sym e ∙ w) s.0 ∙ rw (le-ltb y.place (length t) (omega (arith, s.1)))) s.1
 
 -- a piece that starts has its bytes
 pub pass-room : (x : Start) {t : List ℕ} {q k : ℕ} {s : Start} → Passing t q k → s ≡ start (drop k t) → s ≡ x → k + least x ≤ length t
@@ -186,6 +187,19 @@ pass_run {t} {q} g =
     let b : get_or t i 0 ≡ 32 = eqb-true (get_or t i 0) 32 (not-false (eqb (get_or t i 0) 32) e) in
     rw (← add-one i) (pass-blank s h (rw b) refl))
     g (pass-first (omega (arith, g.from, g.to)))
+
+-- the first place at which no blank stands
+pub passing_first : {Says : ℕ → Bool → Type 0} {t : List ℕ} {q k r : ℕ} {o : O.Option ℕ} → Passing t q k
+    → ((i : ℕ) → i < length t → Says i false → is_blank (get_or t i 0) ≡ true) → FirstPlace Says k (length t) o → r ≡ unwrap_or o (length t)
+    → Passing t q r
+passing_first {Says} {t} {q} {k} {o = o} g blank f e = rw e (by o f.is)
+  where
+    on : {r : ℕ} → k ≤ r → r ≤ length t → Clear Says k r → Passing t q r
+    on l m c = clear_keeps (length t) (Passing t q) (λ i h x s. pass-blank s h (sym (blank i h x)) refl) c l m g
+
+    by : (o : O.Option ℕ) → First Says k (length t) o → Passing t q (unwrap_or o (length t))
+    by None c = on g.to (omega arith) c
+    by (Some x) c = on c.0 (omega (arith, c.1)) c.3
 
 -- for callers: by what the answer is
 pub word-told : {t : List ℕ} {q : ℕ} {r x : Next} → NextWord t q r → r ≡ x → NextWord t q x

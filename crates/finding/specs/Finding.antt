@@ -33,11 +33,28 @@ pub record Sought (p : List ℕ → Bool) (t : List ℕ) (q r : ℕ) : Type 0 wh
   pub to : r ≤ length t
   pub is : find p (drop q t) ≡ cond (ltb r (length t) || p []) (some (r - q)) none
 
+-- where what must be closed is closed; a text that has no such place is wrong at its end
+abbrev pub Closed : (List ℕ → Bool) → List ℕ → ℕ → Result ℕ Wrong → Type 0
+Closed p t q (Ok r) = Sought p t q r × (r < length t)
+Closed p t q (Err e) = Sought p t q e.place × (e.place ≡ length t)
+
 -- the search from place q has come to place k
 pub record Seeking (p : List ℕ → Bool) (t : List ℕ) (q k : ℕ) : Type 0 where
   pub from : q ≤ k
   pub to : k ≤ length t
   pub is : find p (drop q t) ≡ later (k - q) (find p (drop k t))
+
+-- at each place from q up to r a test says no
+pub record Clear (Says : ℕ → Bool → Type 0) (q r : ℕ) : Type 0 where
+  pub each : (i : ℕ) → q ≤ i → i < r → Says i false
+
+abbrev pub First : (ℕ → Bool → Type 0) → ℕ → ℕ → O.Option ℕ → Type 0
+First Says q n None = Clear Says q n
+First Says q n (Some r) = (q ≤ r) × (r < n) × Says r true × Clear Says q r
+
+-- the first place from q on, before n, at which a test says yes
+pub record FirstPlace (Says : ℕ → Bool → Type 0) (q n : ℕ) (o : O.Option ℕ) : Type 0 where
+  pub is : First Says q n o
 
 -- the gaps from place q to place k are passed
 pub record Passing (t : List ℕ) (q k : ℕ) : Type 0 where

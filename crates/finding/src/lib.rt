@@ -1,9 +1,9 @@
 // Finding the next word of a text. Runs of bytes are passed eight at a time; behind them each byte is looked at.
 #![tactic(auto)]
 
-ghost use Rattle.std.specs.Prelude.{◌≡◌, ◌<◌, ◌≤◌, ◌+◌, length, drop, get_or};
-ghost use Rattle.words.specs.Words.{is_blank, start as start_of, ends, ends_word, ends_line};
-ghost use Rattle.finding.specs.Finding.{slash_by, ends_comment, ends_string, Sought, Passing, NextWord};
+ghost use Rattle.std.specs.Prelude.{◌≡◌, ◌<◌, ◌≤◌, ◌+◌, ℕ, length, drop, get_or};
+ghost use Rattle.words.specs.Words.{is_blank, start as start_of, ends_word, ends_line};
+ghost use Rattle.finding.specs.Finding.{slash_by, ends_comment, ends_string, FirstPlace, Sought, Closed, Passing, NextWord};
 
 use words::{Start, Word, Wrong};
 
@@ -13,20 +13,27 @@ fn blank(b: u8) -> bool
     (b == b' ') | (b == b'\t') | (b == b'\r') | (b == b'\n')
 }
 
+// The first place from k on that passes the test.
+fn first_place<F: Fn(usize) -> bool>(t: &[u8], k: usize, test: F) -> Option<usize>
+    requires callable { (i : ℕ) → i < length t.now → F.pre test i }
+    requires inside { k ≤ length t.now }
+    ensures { FirstPlace (F.post test) k (length t.now) result }
+{
+    for i in k..t.len() {
+        if test(i) {
+            return Some(i);
+        }
+    }
+    None
+}
+
 // Where the blanks behind the one at place q end.
 fn blanks_end(t: &[u8], q: usize) -> usize
     requires { q + 1 ≤ length t.now }
     ensures { Passing t.now (q + 1) result }
 {
-    let mut k = runs::along(t, q + 1, b' ');
-    while k < t.len() {
-        if blank(t[k]) {
-            k += 1;
-        } else {
-            return k;
-        }
-    }
-    k
+    let k = runs::along(t, q + 1, b' ');
+    first_place(t, k, |i| !blank(t[i])).unwrap_or(t.len())
 }
 
 // The byte behind place q; 0 where the text ends.
@@ -78,32 +85,13 @@ fn starting(t: &[u8], q: usize) -> Start
     Start::Nothing
 }
 
-fn word_ends(s: Start) -> bool
-    ensures { result ≡ ends s }
-{
-    match s {
-        Start::Nothing => true,
-        Start::Blank => true,
-        Start::Comment => true,
-        Start::Line => true,
-        Start::Quote => true,
-        Start::Other => false,
-    }
-}
-
 // Where the word that starts at place q ends: behind its first byte. No word ends at a byte over the slash, 47.
 fn word_end(t: &[u8], q: usize) -> usize
     requires { q + 1 ≤ length t.now }
     ensures { Sought ends_word t.now (q + 1) result }
 {
-    let mut k = runs::over(t, q + 1, 48);
-    while k < t.len() {
-        if word_ends(starting(t, k)) {
-            return k;
-        }
-        k += 1;
-    }
-    k
+    let k = runs::over(t, q + 1, 48);
+    first_place(t, k, |i| starting(t, i) != Start::Other).unwrap_or(t.len())
 }
 
 // Where the comment that starts at place q with two slashes ends. LF and CR are below 14.
@@ -111,44 +99,26 @@ fn line_end(t: &[u8], q: usize) -> usize
     requires { q + 2 ≤ length t.now }
     ensures { Sought ends_line t.now (q + 2) result }
 {
-    let mut k = runs::over(t, q + 2, 14);
-    while k < t.len() {
-        if (t[k] == b'\n') | (t[k] == b'\r') {
-            return k;
-        }
-        k += 1;
-    }
-    k
+    let k = runs::over(t, q + 2, 14);
+    first_place(t, k, |i| (t[i] == b'\n') | (t[i] == b'\r')).unwrap_or(t.len())
 }
 
-// Where the closing mark of the string that starts at place q stands, or the text's length.
-fn string_end(t: &[u8], q: usize) -> usize
+// Where the closing mark of the string that starts at place q stands.
+fn string_end(t: &[u8], q: usize) -> Result<usize, Wrong>
     requires { q + 1 ≤ length t.now }
-    ensures { Sought ends_string t.now (q + 1) result }
+    ensures { Closed ends_string t.now (q + 1) result }
 {
-    let mut k = runs::without(t, q + 1, b'"');
-    while k < t.len() {
-        if t[k] == b'"' {
-            return k;
-        }
-        k += 1;
-    }
-    k
+    let k = runs::without(t, q + 1, b'"');
+    first_place(t, k, |i| t[i] == b'"').ok_or(Wrong { place: t.len() })
 }
 
-// Where the closing star of the comment that starts at place q stands, or the text's length.
-fn comment_end(t: &[u8], q: usize) -> usize
+// Where the closing star of the comment that starts at place q stands.
+fn comment_end(t: &[u8], q: usize) -> Result<usize, Wrong>
     requires { q + 2 ≤ length t.now }
-    ensures { Sought ends_comment t.now (q + 2) result }
+    ensures { Closed ends_comment t.now (q + 2) result }
 {
-    let mut k = runs::without(t, q + 2, b'*');
-    while k < t.len() {
-        if (t[k] == b'*') & (second(t, k) == b'/') {
-            return k;
-        }
-        k += 1;
-    }
-    k
+    let k = runs::without(t, q + 2, b'*');
+    first_place(t, k, |i| t[i] == b'*' && second(t, i) == b'/').ok_or(Wrong { place: t.len() })
 }
 
 // The next word from place q on; none at the text's end. A text that ends inside what is not closed is wrong there.
@@ -158,36 +128,18 @@ pub fn next_word(t: &[u8], q: usize) -> Result<Option<Word>, Wrong>
 {
     let mut k = q;
     loop {
-        let s = starting(t, k);
-        match s {
-            Start::Nothing => {
-                return Ok(None);
-            }
-            Start::Blank => {
-                k = blanks_end(t, k);
-            }
-            Start::Comment => {
-                let r = comment_end(t, k);
-                if r >= t.len() {
-                    return Err(Wrong { place: t.len() });
-                }
-                k = r + 2;
-            }
-            Start::Line => {
-                k = line_end(t, k);
-            }
+        match starting(t, k) {
+            Start::Nothing => return Ok(None),
+            Start::Blank => k = blanks_end(t, k),
+            Start::Comment => k = comment_end(t, k)? + 2,
+            Start::Line => k = line_end(t, k),
             Start::Quote => {
-                let r = string_end(t, k);
-                if r < t.len() {
-                    return Ok(Some(Word { from: k, to: r + 1 }));
-                }
-                return Err(Wrong { place: t.len() });
+                let to = string_end(t, k)? + 1;
+                return Ok(Some(Word { from: k, to }));
             }
             Start::Other => {
-                return Ok(Some(Word {
-                    from: k,
-                    to: word_end(t, k),
-                }));
+                let to = word_end(t, k);
+                return Ok(Some(Word { from: k, to }));
             }
         }
     }

@@ -1,10 +1,6 @@
 -- Runs of bytes, eight at a time.
-use Rattle.std.specs.Prelude.{ℕ, ◌≤◌, ◌≡◌, Bool, false, not, ◌||◌, List, [], ◌∷◌, length, eqb, ltb}
+use Rattle.std.specs.Prelude.{ℕ, ◌<◌, ◌≤◌, ◌≡◌, Bool, false, not, ◌||◌, List, [], ◌∷◌, length, get_or, eqb, ltb}
 use Rattle.std.proofs.Math.Seq.{slice}
-use Rattle.runs.specs.declared.Eight.{Eight}
-
-abbrev pub eight : Eight → List ℕ
-eight e = e.0 ∷ e.1 ∷ e.2 ∷ e.3 ∷ e.4 ∷ e.5 ∷ e.6 ∷ e.7 ∷ []
 
 -- some of these bytes has the property f, or x holds already
 abbrev pub or_some : Bool → (ℕ → Bool) → List ℕ → Bool
@@ -28,3 +24,9 @@ pub record Run (f : ℕ → Bool) (t : List ℕ) (q r : ℕ) : Type 0 where
   pub from : q ≤ r
   pub to : r ≤ length t
   pub is : some f (slice q r t) ≡ false
+
+-- each byte from place q up to place r is such a byte
+pub record Passed (Such : ℕ → Type 0) (t : List ℕ) (q r : ℕ) : Type 0 where
+  pub from : q ≤ r
+  pub to : r ≤ length t
+  pub each : (i : ℕ) → q ≤ i → i < r → Such (get_or t i 0)

@@ -1,46 +1,37 @@
 // Runs of bytes in a text, passed eight or four at a time. The last bytes of a run, too few for that, are the caller's.
 #![tactic(auto)]
 
-ghost use Rattle.std.specs.Prelude.{◌≡◌, ◌≤◌, ◌+◌, length, drop, take};
-ghost use Rattle.runs.specs.Runs.{eight, some, under, equal, other, Run};
+ghost use Rattle.std.specs.Prelude.{◌≡◌, ◌<◌, ◌≤◌, ◌+◌, ℕ, length, slice_index, false, IsFalse, IsTrue, SomeIndex, true};
+ghost use Rattle.runs.specs.Runs.{under, equal, other, Passed, Run};
 
-// Eight bytes that stand one behind another. All are read before one is tested, so that they can be tested as one.
-#[derive(Clone, Copy)]
-struct Eight(u8, u8, u8, u8, u8, u8, u8, u8);
-
-fn eight_at(t: &[u8], k: usize) -> Eight
-    requires { k + 8 ≤ length t.now }
-    ensures { eight result ≡ take 8 (drop k t.now) }
+// Whether some of these bytes passes the test. Each is tested, whatever the others say, so that they can be tested as one.
+fn some<const N: usize, F: Fn(u8) -> bool>(bytes: &[u8; N], test: F) -> bool
+    requires { F.IsAlwaysCallable test }
+    ensures none { IsFalse result → (i : ℕ) → i < N → F.post test (slice_index bytes.now i) false }
+    ensures one { IsTrue result → SomeIndex bytes.now (λ i. F.post test (slice_index bytes.now i) true) }
 {
-    Eight(
-        t[k],
-        t[k + 1],
-        t[k + 2],
-        t[k + 3],
-        t[k + 4],
-        t[k + 5],
-        t[k + 6],
-        t[k + 7],
-    )
+    let mut found = false;
+    for b in bytes {
+        found |= test(*b);
+    }
+    found
 }
 
-fn some_under(e: Eight, n: u8) -> bool
-    ensures { result ≡ some (under n) (eight e) }
+// Passes N bytes at a time, of which none passes the test.
+fn passed<const N: usize, F: Fn(u8) -> bool>(t: &[u8], q: usize, test: F) -> usize
+    requires callable { F.IsAlwaysCallable test }
+    requires size { (0 < N) × (N ≤ 8) }
+    requires inside { q ≤ length t.now }
+    ensures { Passed (λ b. F.post test b false) t.now q result }
 {
-    (e.0 < n) | (e.1 < n) | (e.2 < n) | (e.3 < n) | (e.4 < n) | (e.5 < n) | (e.6 < n) | (e.7 < n)
-}
-
-fn some_equal(e: Eight, b: u8) -> bool
-    ensures { result ≡ some (equal b) (eight e) }
-{
-    (e.0 == b)
-        | (e.1 == b)
-        | (e.2 == b)
-        | (e.3 == b)
-        | (e.4 == b)
-        | (e.5 == b)
-        | (e.6 == b)
-        | (e.7 == b)
+    let mut k = q;
+    while let Some(bytes) = t[k..].first_chunk::<N>() {
+        if some(bytes, &test) {
+            break;
+        }
+        k += N;
+    }
+    k
 }
 
 // Passes eights that have no byte below n, and then four such bytes.
@@ -48,20 +39,12 @@ pub fn over(t: &[u8], q: usize, n: u8) -> usize
     requires { q ≤ length t.now }
     ensures { Run (under n) t.now q result }
 {
-    let mut k = q;
-    while t.len() - k >= 8 {
-        if some_under(eight_at(t, k), n) {
-            break;
-        }
-        k += 8;
+    let low = |b: u8| b < n;
+    let k = passed::<8, _>(t, q, low);
+    match t[k..].first_chunk::<4>() {
+        Some(bytes) if !some(bytes, low) => k + 4,
+        _ => k,
     }
-    if t.len() - k < 4 {
-        return k;
-    }
-    if (t[k] < n) | (t[k + 1] < n) | (t[k + 2] < n) | (t[k + 3] < n) {
-        return k;
-    }
-    k + 4
 }
 
 // Passes eights that have no byte b.
@@ -69,14 +52,7 @@ pub fn without(t: &[u8], q: usize, b: u8) -> usize
     requires { q ≤ length t.now }
     ensures { Run (equal b) t.now q result }
 {
-    let mut k = q;
-    while t.len() - k >= 8 {
-        if some_equal(eight_at(t, k), b) {
-            return k;
-        }
-        k += 8;
-    }
-    k
+    passed::<8, _>(t, q, |x| x == b)
 }
 
 // Passes fours of the byte b: a run of blanks is short.
@@ -84,12 +60,5 @@ pub fn along(t: &[u8], q: usize, b: u8) -> usize
     requires { q ≤ length t.now }
     ensures { Run (other b) t.now q result }
 {
-    let mut k = q;
-    while t.len() - k >= 4 {
-        if (t[k] != b) | (t[k + 1] != b) | (t[k + 2] != b) | (t[k + 3] != b) {
-            return k;
-        }
-        k += 4;
-    }
-    k
+    passed::<4, _>(t, q, |x| x != b)
 }

@@ -1,9 +1,8 @@
--- Where the run ends, each turn passes a byte at which no word ends.
-use Rattle.finding.proofs.SeekLaws.{seeks}
+-- Where the run ends, each place is told by what starts there.
+use Rattle.std.proofs.Common.{rules, tests}
+use Rattle.finding.proofs.StartLaws.{endings, clear_word}
+use Rattle.finding.proofs.SeekLaws.{seek_run, sought_first}
 use Rattle.finding.proofs.word_end.Goals as goal
 
-pub loop-k-init : goal.loop-k-init
-loop-k-init c = search seeks
-
-pub loop-k-preserved : goal.loop-k-preserved
-loop-k-preserved c = search seeks
+pub returns : goal.returns
+returns c = sought_first (seek_run clear_word c.over-k.ensures) (λ i b h s. search (rules, tests, endings)) c.first_place.ensures c.unwrap_or.ensures

@@ -1,6 +1,7 @@
--- Each turn passes four bytes of the run.
-use Rattle.runs.proofs.RunLaws.{runs}
+-- By the bytes that were passed.
+use Rattle.std.proofs.Common.{rules, tests}
+use Rattle.runs.proofs.RunLaws.{run_passed}
 use Rattle.runs.proofs.along.Goals as goal
 
-pub loop-k-preserved : goal.loop-k-preserved
-loop-k-preserved c = search runs
+pub returns : goal.returns
+returns c = run_passed (λ b h. search (rules, tests)) c.passed.ensures
