@@ -2,7 +2,6 @@
 // standard output at once.
 #![tactic(auto)]
 
-use keywords::Meant;
 use settingtext::{argument, report};
 use standard::{Input, read_input, tell, write_output};
 use std::env::{Env, FillError};
@@ -23,17 +22,14 @@ fn word_count(rt: &HostRuntime) -> usize {
 }
 
 // The longest packet. Linux starts no program with a word of 131,072 bytes or more. A word that is missing comes as one of no byte.
-fn longest(rt: &HostRuntime) -> Meant {
+fn longest(rt: &HostRuntime) -> Option<u32> {
     let mut first = [0u8; 131072];
-    let n = match rt.arg(1, &mut first) {
-        Ok(n) => n,
-        Err(_) => 0,
-    };
+    let n = rt.arg(1, &mut first).unwrap_or(0);
     argument(word_count(rt), &first[0..n])
 }
 
 // Writes the text of an input.
-fn answer(rt: &HostRuntime, t: &[u8], x: Meant) {
+fn answer(rt: &HostRuntime, t: &[u8], x: Option<u32>) {
     let mut out = [0u8; 149];
     let k = report(t, x, &mut out);
     write_output(
@@ -44,7 +40,7 @@ fn answer(rt: &HostRuntime, t: &[u8], x: Meant) {
 }
 
 // One byte more than the longest text is read, so that a longer one is seen.
-fn answer_input(rt: &HostRuntime, x: Meant) {
+fn answer_input(rt: &HostRuntime, x: Option<u32>) {
     let mut input = [0u8; 16385];
     match read_input(rt, &mut input) {
         Input::Bytes(n) => answer(rt, &input[0..n], x),
@@ -56,7 +52,7 @@ fn answer_input(rt: &HostRuntime, x: Meant) {
 pub fn run(rt: &HostRuntime) {
     let x = longest(rt);
     match x {
-        Meant::Value(_) => answer_input(rt, x),
-        Meant::Nothing => answer(rt, b"", x),
+        Some(_) => answer_input(rt, x),
+        None => answer(rt, b"", x),
     }
 }

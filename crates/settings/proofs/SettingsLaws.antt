@@ -19,7 +19,7 @@ module _ (t : List ℕ) (x : ℕ) where
   settings_long h = rw (lt-ltb most_text (length t) h)
 
   module _ (h : length t ≤ most_text) where
-    settings_judged : {o : Outcome} → o ≡ reading t 0 State.first → judge x o ≡ settings_of t x
+    pub settings_judged : {o : Outcome} → o ≡ reading t 0 State.first → judge x o ≡ settings_of t x
     unfolding settings_of
     settings_judged e = rw (le-ltb most_text (length t) h) (ap (judge x) e)
 

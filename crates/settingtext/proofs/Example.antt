@@ -3,19 +3,19 @@ use Prim.Native.Nat.{ℕ}
 use mathlib.Core.Path.{◌≡◌, refl}
 use mathlib.Core.Option.{none, some}
 use mathlib.Core.List.{List, [], ◌∷◌, ◌++◌, map}
+use Rattle.std.specs.Prelude.{Some, None}
 use Rattle.words.specs.Words.{ascii}
-use Rattle.keywords.specs.declared.Meant.TheVariants.{Nothing, Value}
 use Rattle.description.proofs.Example.{block, described}
 use Rattle.spelling.specs.Text.{spelled, decimal}
 use Rattle.settingtext.specs.Text.{argument, program_text}
 
-pub printed : program_text block (Value 56)
+pub printed : program_text block (Some 56)
     ≡ ascii "cmd_stim 5 0 4 64 56 1" ++ (10 ∷ (ascii "res_daq 5 0 4 64 56 0" ++ (10 ∷ [])))
 unfolding spelled decimal program_text
 printed = rw described
 
 -- whatever the input
-pub unasked : (t : List ℕ) → program_text t Nothing ≡ ascii "refused 1 0" ++ (10 ∷ [])
+pub unasked : (t : List ℕ) → program_text t None ≡ ascii "refused 1 0" ++ (10 ∷ [])
 unfolding spelled decimal program_text
 unasked t = refl
 

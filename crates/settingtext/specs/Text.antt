@@ -1,9 +1,8 @@
 -- The text of xcpsettings (Ask 1): a line for each of the two settings, its name and six decimal numbers with one space between; or the one line of a refusal.
-use Rattle.std.specs.Prelude.{ℕ, cond, List, ◌++◌, eqb}
+use Rattle.std.specs.Prelude.{ℕ, cond, List, ◌++◌, eqb, Some, None}
+use Rattle.std.specs.declared.option.Option as O
 use Rattle.std.proofs.Math.Option.{Option, none}
 use Rattle.words.specs.Words.{ascii}
-use Rattle.keywords.specs.declared.Meant.{Meant}
-use Rattle.keywords.specs.declared.Meant.TheVariants.{Nothing, Value}
 use Rattle.keywords.specs.Tables.{based}
 use Rattle.usb.specs.declared.Setting.{Setting}
 use Rattle.description.specs.Described.{Described, Described as D}
@@ -28,6 +27,6 @@ unfoldable pub argument : (words : ℕ) (first : List ℕ) → Option ℕ
 argument n w = cond (eqb n 2) (based 10 4294967295 w) none
 
 -- the program's text by its input and X; without X it is refused with 1 at 0, whatever the input
-unfoldable pub program_text : List ℕ → Meant → List ℕ
-program_text t Nothing = refused_text 1 0
-program_text t (Value x) = described_text (settings_of t x)
+unfoldable pub program_text : List ℕ → O.Option ℕ → List ℕ
+program_text t None = refused_text 1 0
+program_text t (Some x) = described_text (settings_of t x)

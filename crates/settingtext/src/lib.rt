@@ -8,19 +8,20 @@ ghost use Rattle.spelling.specs.Put.{Puts, Reports};
 ghost use Rattle.settingtext.specs.Text.{numbers_of, lines_of, described_text, argument as argument_of, program_text};
 
 use description::Described;
-use keywords::{Meant, based};
+use keywords::based;
 use settings::settings;
 use spelling::{put_bytes, put_refusal, put_word};
 use usb::Setting;
 
 // The longest packet, from how many words the program was called with, its own name among them, and the first behind the name.
-pub fn argument(words: usize, first: &[u8]) -> Meant
+#[tactic(auto, unfolding(crate::specs::Text::argument))]
+pub fn argument(words: usize, first: &[u8]) -> Option<u32>
     ensures { result ≡ told (argument_of words first.now) }
 {
     if words == 2 {
-        return based(first, 0, first.len(), 10, 4294967295);
+        return based(first, 10, 4294967295);
     }
-    Meant::Nothing
+    None
 }
 
 // Puts the numbers of a setting from a place on, and gives the place behind their line.
@@ -59,12 +60,13 @@ fn put_described(out: &mut [u8], answer: Described) -> usize
 }
 
 // The program's work: the text of an input at the front of the output.
-pub fn report(t: &[u8], longest: Meant, out: &mut [u8]) -> usize
+#[tactic(auto, using(spelling::proofs::ReportLaws::tells), unfolding(crate::specs::Text::program_text))]
+pub fn report(t: &[u8], longest: Option<u32>, out: &mut [u8]) -> usize
     requires { Inside out.old 0 149 }
     ensures { Reports out.old (program_text t.now longest) out.new result }
 {
     match longest {
-        Meant::Value(x) => put_described(out, settings(t, x)),
-        Meant::Nothing => put_refusal(out, 1, 0),
+        Some(x) => put_described(out, settings(t, x)),
+        None => put_refusal(out, 1, 0),
     }
 }
