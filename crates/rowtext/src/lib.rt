@@ -3,13 +3,13 @@
 
 ghost use Rattle.std.specs.Prelude.{◌≡◌, ◌*◌, drop};
 ghost use Rattle.packet.specs.Counter.{fresh};
+ghost use Rattle.packet.specs.Said.{read_said};
 ghost use Rattle.usb.specs.Reading.{read_of};
 ghost use Rattle.spelling.specs.Put.{Puts, Reports};
 ghost use Rattle.rowtext.specs.Put.{Rowed, Listed, Roomy, Tellable, Prepared};
 ghost use Rattle.rowtext.specs.Text.{line_of, lines, told, text_of, program_text, u1 as u1_of};
 
-use layout::wide32;
-use packet::{Counter, Reading};
+use packet::{Counter, Reason, Refusal, Rows};
 use spelling::{put_refusal, put_word};
 use usb::Setting;
 use usb_reader::read;
@@ -32,22 +32,20 @@ fn put_rows(out: &mut [u8], rows: &[u32], k: usize) -> usize
     ensures { Puts out.old 0 (lines k rows.now) (55 * k) out.new result }
 {
     let mut at: usize = 0;
-    let mut i: usize = 0;
-    while i < k {
+    for i in 0..k {
         at = put_row(out, at, rows, i * 5);
-        i += 1;
     }
     at
 }
 
 // Puts the text of an answer at the front.
-fn put_answer(out: &mut [u8], rows: &[u32], answer: Reading) -> usize
-    requires { Tellable out.old rows.now answer }
-    ensures { Reports out.old (told answer rows.now) out.new result }
+fn put_answer(out: &mut [u8], rows: &[u32], answer: Result<Rows, Refusal>) -> usize
+    requires { Tellable out.old rows.now (read_said answer) }
+    ensures { Reports out.old (told (read_said answer) rows.now) out.new result }
 {
     match answer {
-        Reading::Rows(k, _) => put_rows(out, rows, wide32(k)),
-        Reading::Refused(number, place) => put_refusal(out, number, place),
+        Ok(read) => put_rows(out, rows, read.count as usize),
+        Err(refusal) => put_refusal(out, refusal),
     }
 }
 
@@ -80,7 +78,7 @@ pub fn report(t: &[u8], rows: &mut [u32], out: &mut [u8]) -> usize
     ensures { Reports out.old (program_text t.now) out.new result }
 {
     if t.len() > 8192 {
-        return put_refusal(out, 2, 0);
+        return put_refusal(out, Refusal::whole(Reason::Mismatch));
     }
     tell(t, rows, out)
 }

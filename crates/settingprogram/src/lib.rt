@@ -3,7 +3,7 @@
 #![tactic(auto)]
 
 use settingtext::{argument, report};
-use standard::{Input, read_input, tell, write_output};
+use standard::{read_input, tell, write_output};
 use std::env::{Env, FillError};
 
 // Whether the program was called with so many words before a further one, its own name among them. A word that has no room is there.
@@ -43,8 +43,8 @@ fn answer(rt: &HostRuntime, t: &[u8], x: Option<u32>) {
 fn answer_input(rt: &HostRuntime, x: Option<u32>) {
     let mut input = [0u8; 16385];
     match read_input(rt, &mut input) {
-        Input::Bytes(n) => answer(rt, &input[0..n], x),
-        Input::Failed => tell(rt, b"xcpsettings: standard input cannot be read\n"),
+        Ok(n) => answer(rt, &input[0..n], x),
+        Err(_) => tell(rt, b"xcpsettings: standard input cannot be read\n"),
     }
 }
 

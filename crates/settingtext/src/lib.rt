@@ -4,11 +4,13 @@
 ghost use Rattle.std.specs.Prelude.{◌≡◌};
 ghost use Rattle.store.specs.Store.{Inside};
 ghost use Rattle.keywords.specs.Saying.{told};
+ghost use Rattle.description.specs.Described.{described_said};
 ghost use Rattle.spelling.specs.Put.{Puts, Reports};
 ghost use Rattle.settingtext.specs.Text.{numbers_of, lines_of, described_text, argument as argument_of, program_text};
 
-use description::Described;
+use description::Both;
 use keywords::based;
+use packet::{Reason, Refusal};
 use settings::settings;
 use spelling::{put_bytes, put_refusal, put_word};
 use usb::Setting;
@@ -49,13 +51,13 @@ fn put_lines(out: &mut [u8], cmd: Setting, res: Setting) -> usize
 }
 
 // Puts the text of an answer at the front.
-fn put_described(out: &mut [u8], answer: Described) -> usize
+fn put_described(out: &mut [u8], answer: Result<Both, Refusal>) -> usize
     requires { Inside out.old 0 149 }
-    ensures { Reports out.old (described_text answer) out.new result }
+    ensures { Reports out.old (described_text (described_said answer)) out.new result }
 {
     match answer {
-        Described::Both(cmd, res) => put_lines(out, cmd, res),
-        Described::Refused(number, place) => put_refusal(out, number, place),
+        Ok(both) => put_lines(out, both.cmdstim, both.resdaq),
+        Err(refusal) => put_refusal(out, refusal),
     }
 }
 
@@ -67,6 +69,6 @@ pub fn report(t: &[u8], longest: Option<u32>, out: &mut [u8]) -> usize
 {
     match longest {
         Some(x) => put_described(out, settings(t, x)),
-        None => put_refusal(out, 1, 0),
+        None => put_refusal(out, Refusal::whole(Reason::Unsound)),
     }
 }

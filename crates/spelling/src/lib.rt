@@ -2,10 +2,12 @@
 #![tactic(auto)]
 
 ghost use Rattle.std.specs.Prelude.{length};
+ghost use Rattle.packet.specs.Said.{number_of};
 ghost use Rattle.store.specs.Store.{Inside, Short};
 ghost use Rattle.spelling.specs.Put.{Spelt, Puts};
 ghost use Rattle.spelling.specs.Text.{word, refused_text};
 
+use packet::Refusal;
 use store::put_packet;
 
 // A number's decimal digits at the front of a text, and how many there are.
@@ -37,11 +39,12 @@ pub fn put_word(out: &mut [u8], at: usize, n: u32, behind: u8) -> usize
 }
 
 // Puts the line of a refusal at the front.
-pub fn put_refusal(out: &mut [u8], number: u32, place: u32) -> usize
+pub fn put_refusal(out: &mut [u8], refusal: Refusal) -> usize
     requires { Inside out.old 0 30 }
-    ensures { Puts out.old 0 (refused_text number place) 30 out.new result }
+    ensures { Puts out.old 0 (refused_text (number_of refusal.reason) refusal.place) 30 out.new result }
 {
+    let number = u32::from(refusal.reason);
     let a = put_bytes(out, 0, b"refused ");
     let b = put_word(out, a, number, b' ');
-    put_word(out, b, place, b'\n')
+    put_word(out, b, refusal.place, b'\n')
 }
