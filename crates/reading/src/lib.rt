@@ -1,5 +1,6 @@
 // Reading, written once for every layout: a step that judges and a loop over it, a step that tests no rule and a loop over it that gives the rows.
-// Each caller says its case by literals, all at one call, and the compiler makes a loop for each case.
+// A loop is told its layout and its field widths by const parameters, so there is one for each case. What is no literal at every call, as the alignment,
+// goes as an argument.
 #![tactic(auto)]
 
 ghost use Rattle.std.specs.Prelude.{◌≡◌, ◌+◌, ◌*◌, ◌≤◌, length};
@@ -17,6 +18,7 @@ use plan::{Plan, behind, cased, header, next_packet, on, rests};
 use rows::{Judged, put};
 
 // LEN of a header at h, or 0 where no header fits before the end. Where `tests` is false it fits.
+#[tactic(auto, using(crate::proofs::StepLaws::steps))]
 fn len_at(tests: bool, p: Plan, t: &[u8], h: usize, end: usize) -> usize
     requires { Header tests p t.now h end }
     ensures { Len tests p t.now h end result }
@@ -97,6 +99,7 @@ fn message(over: bool, past: bool, h: usize, m: Found, next: At) -> Seen
 }
 
 // What stands at a place whose header says a length.
+#[tactic(auto, using(crate::proofs::StepLaws::steps))]
 fn take(p: Plan, t: &[u8], a: At, h: usize, rest: usize, len: usize) -> Seen
     requires { Headed p t.now a h rest len }
     ensures { result ≡ seen p t.now a }
@@ -112,6 +115,7 @@ fn take(p: Plan, t: &[u8], a: At, h: usize, rest: usize, len: usize) -> Seen
 }
 
 // What stands at a place, and the place behind it.
+#[tactic(auto, using(crate::proofs::StepLaws::steps))]
 fn see(p: Plan, t: &[u8], a: At) -> Seen
     requires { Standing p t.now a }
     ensures { result ≡ seen p t.now a }
@@ -127,6 +131,7 @@ fn see(p: Plan, t: &[u8], a: At) -> Seen
 }
 
 // What stands at a place where a message or a rest stands: no rule is tested.
+#[tactic(auto, using(crate::proofs::FindLaws::findings))]
 fn find(p: Plan, t: &[u8], a: At) -> Seen
     requires { Going p t.now a }
     ensures { Finds p t.now a result }
@@ -142,9 +147,8 @@ fn find(p: Plan, t: &[u8], a: At) -> Seen
 }
 
 // Judges what is ahead of a place before which so many rows stand, and writes nothing.
-pub fn judge_loop(
-    layout: usize,
-    lenwidth: usize,
+#[tactic(auto, using(crate::proofs::LoopLaws::judgings))]
+pub fn judge_loop<const LAYOUT: usize, const LENWIDTH: usize>(
     ctrwidth: usize,
     size: usize,
     align: usize,
@@ -153,11 +157,11 @@ pub fn judge_loop(
     from: At,
     before: usize,
 ) -> Judged
-    requires cased { Cased layout lenwidth ctrwidth size align plan }
+    requires cased { Cased LAYOUT LENWIDTH ctrwidth size align plan }
     requires counted { Counted plan t.now from before }
     ensures { JudgedAs before (reads plan t.now from) (length t.now) result }
 {
-    let p = cased(layout, lenwidth, ctrwidth, size, align, plan);
+    let p = cased(LAYOUT, LENWIDTH, ctrwidth, size, align, plan);
     let mut a = from;
     let mut rows = before;
     loop {
@@ -181,10 +185,8 @@ pub fn judge_loop(
 
 // Writes the rows of what was judged, from a place on before which so many of the k rows stand, and gives the state behind them. The state's two
 // numbers are kept apart, so that a turn need not wait for the whole state of the one before.
-pub fn fill_loop(
-    layout: usize,
-    lenwidth: usize,
-    ctrwidth: usize,
+#[tactic(auto, using(crate::proofs::LoopLaws::givings))]
+pub fn fill_loop<const LAYOUT: usize, const LENWIDTH: usize, const CTRWIDTH: usize>(
     size: usize,
     align: usize,
     plan: Plan,
@@ -195,12 +197,12 @@ pub fn fill_loop(
     before: usize,
     k: usize,
 ) -> Counter
-    requires cased { Cased layout lenwidth ctrwidth size align plan }
+    requires cased { Cased LAYOUT LENWIDTH CTRWIDTH size align plan }
     requires fillable { Fillable plan t.now from first before k (length rows.old) }
     ensures { filled rows.new result
         ≡ filling plan.direction plan.ctrwidth rows.old (5 * before) first (reads plan t.now from) }
 {
-    let p = cased(layout, lenwidth, ctrwidth, size, align, plan);
+    let p = cased(LAYOUT, LENWIDTH, CTRWIDTH, size, align, plan);
     let mut a = from;
     let mut j = before;
     let mut known = first.known;
