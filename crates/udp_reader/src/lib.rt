@@ -6,7 +6,7 @@ ghost use Rattle.lent.specs.Told.{Tells};
 ghost use Rattle.udp.specs.Reading.{read_of};
 
 use lent::Told;
-use message_reader::{judge_planned, read_judged};
+use message_reader::read_planned;
 use packet::{Counter, Reading};
 use rows::refuse;
 use udp::{Setting, plan_of, sound};
@@ -16,9 +16,7 @@ pub fn read(s: Setting, t: &[u8], c: Counter, rows: &mut [u32]) -> Reading
     ensures { Gives (read_of s t.now c rows.old) result rows.new }
 {
     if sound(s) {
-        let p = plan_of(s);
-        let j = judge_planned(4, p, t, c);
-        return read_judged(4, p, t, c, rows, j);
+        return read_planned::<true>(plan_of(s), t, c, rows);
     }
     refuse(rows, 1, 0)
 }

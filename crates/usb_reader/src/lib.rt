@@ -6,7 +6,7 @@ ghost use Rattle.lent.specs.Told.{Tells};
 ghost use Rattle.usb.specs.Reading.{read_of};
 
 use lent::Told;
-use message_reader::{judge_planned, read_judged};
+use message_reader::read_planned;
 use packet::{Counter, Reading};
 use plan::Planned;
 use rows::refuse;
@@ -18,10 +18,7 @@ pub fn read(s: Setting, t: &[u8], c: Counter, rows: &mut [u32]) -> Reading
     ensures { Gives (read_of s t.now c rows.old) result rows.new }
 {
     match plan_for(s) {
-        Planned::Sound(p) => {
-            let j = judge_planned(p.layout, p, t, c);
-            read_judged(p.layout, p, t, c, rows, j)
-        }
+        Planned::Sound(p) => read_planned::<false>(p, t, c, rows),
         Planned::Unsound => refuse(rows, 1, 0),
     }
 }

@@ -1,33 +1,13 @@
 -- The plan decides.
-use Rattle.usb_reader.proofs.ReadsLaws.{readings}
+use mathlib.Core.Path.{sym, ◌∙◌}
+use Rattle.usb_reader.proofs.ReadsLaws.{planned, sound_so, unsound}
 use Rattle.usb_reader.proofs.read.Goals as goal
 
-pub plan_for-requires : goal.plan_for-requires
-plan_for-requires c = search readings
-
-pub enum_known-p : goal.enum_known-p
-enum_known-p c = search readings
-
-pub judge_planned-j-requires : goal.judge_planned-j-requires
-judge_planned-j-requires c = search readings
-
-pub read_judged-requires : goal.read_judged-requires
-read_judged-requires c = search readings
-
-pub enum_told-1 : goal.enum_told-1
-enum_told-1 c = search readings
-
-pub refuse-requires : goal.refuse-requires
-refuse-requires c = search readings
-
-pub shape_of-rows-in-Sound : goal.shape_of-rows-in-Sound
-shape_of-rows-in-Sound c = search readings
+pub read_planned-requires : goal.read_planned-requires
+read_planned-requires c = planned _ (sym c.in-Sound.is ∙ c.plan_for.ensures)
 
 pub returns-in-Sound : goal.returns-in-Sound
-returns-in-Sound c = search readings
-
-pub shape_of-rows-in-Unsound : goal.shape_of-rows-in-Unsound
-shape_of-rows-in-Unsound c = search readings
+returns-in-Sound c = sound_so _ _ _ _ (sym c.in-Sound.is ∙ c.plan_for.ensures) c.read_planned.ensures
 
 pub returns-in-Unsound : goal.returns-in-Unsound
-returns-in-Unsound c = search readings
+returns-in-Unsound c = unsound _ _ _ _ (sym c.in-Unsound.is ∙ c.plan_for.ensures) c.refuse.ensures
