@@ -11,7 +11,6 @@ ghost use Rattle.flexray.specs.Setting.{most_ceiling};
 ghost use Rattle.flexray.specs.Reading.{ahead, judged, read_of};
 ghost use Rattle.flexray_plan.specs.Plan.{setting, Ready};
 ghost use Rattle.flexray_reader.specs.Reads.{framing, Given, First, Judgeable, Following, Fillable};
-ghost use Rattle.flexray_reader.specs.Reads.{answer_to, Readable, Giveable};
 
 use flexray::Setting;
 use flexray_plan::{further, plan_for};
@@ -36,15 +35,15 @@ fn first(p: Plan, t: &[u8]) -> Found
     }
 }
 
-// Judges the packets behind the first. Each call says its case by literals, here and below.
+// Judges the packets behind the first. An alignment of one is a case of its own, here and below.
 fn judge_behind(p: Plan, t: &[u8], a: At) -> Judged
     requires { Judgeable p t.now a }
     ensures { JudgedAs 1 (reads p t.now a) (length t.now) result }
 {
     if p.align < 2 {
-        return judge_loop(3, 1, 0, 1, 1, p, t, a, 1);
+        return judge_loop::<3, 1>(0, 1, 1, p, t, a, 1);
     }
-    judge_loop(3, 1, 0, 1, p.align, p, t, a, 1)
+    judge_loop::<3, 1>(0, 1, p.align, p, t, a, 1)
 }
 
 // Judges a frame's packets: the first, and those behind it.
@@ -65,6 +64,7 @@ fn judge_packets(p: Plan, t: &[u8]) -> Judged
 }
 
 // Judges a frame before a row is given: its length and its node, NAX being its first byte, then its packets.
+#[tactic(auto, using(crate::proofs::ReadsLaws::judges))]
 fn judge_frame(p: Plan, t: &[u8]) -> Judged
     requires { Ready p }
     ensures { JudgedAs 0 (judged (setting p) t.now) most_ceiling result }
@@ -91,9 +91,9 @@ fn fill_behind(p: Plan, t: &[u8], a: At, c: Counter, rows: &mut [u32], k: usize)
     ensures { filled rows.new result ≡ filling p.direction p.ctrwidth rows.old 5 c (reads p t.now a) }
 {
     if p.align < 2 {
-        return fill_loop(3, 1, 0, 1, 1, p, t, a, c, rows, 1, k);
+        return fill_loop::<3, 1, 0>(1, 1, p, t, a, c, rows, 1, k);
     }
-    fill_loop(3, 1, 0, 1, p.align, p, t, a, c, rows, 1, k)
+    fill_loop::<3, 1, 0>(1, p.align, p, t, a, c, rows, 1, k)
 }
 
 // Gives the k rows of a frame. Its counter and gap stand in the first, and the others carry none.
@@ -108,49 +108,28 @@ fn fill(p: Plan, t: &[u8], c: Counter, rows: &mut [u32], k: usize) -> Counter
     fill_behind(further(p), t, At { q, end }, state, rows, k)
 }
 
-// A frame that was judged to have k rows: they are given if the table has room.
-fn give(p: Plan, t: &[u8], c: Counter, rows: &mut [u32], k: usize) -> Reading
-    requires { Giveable p t.now c k }
-    ensures { Gives (answer_to p t.now c rows.old) result rows.new }
+// Reads a frame: its rows at the front of the table and the state behind it, or the refusal, which changes nothing. The setting and the state come
+// before the frame, and the room behind it.
+pub fn read(s: Setting, t: &[u8], c: Counter, rows: &mut [u32]) -> Reading
+    ensures { Gives (read_of s t.now c rows.old) result rows.new }
 {
+    let p = match plan_for(s) {
+        Planned::Sound(p) => p,
+        Planned::Unsound => return refuse(rows, 1, 0),
+    };
+    if !valid(p.ctrwidth, c) {
+        return refuse(rows, 1, 0);
+    }
+    let k = match judge_frame(p, t) {
+        Judged::Rows(k) => k,
+        Judged::Refused(n, q) => return refuse(rows, n, q),
+    };
     if few(rows.len(), k) {
         return refuse(rows, 4, 0);
     }
     let state = fill(p, t, c, rows, k);
     let count = k as u32;
     Reading::Rows(count, state)
-}
-
-// With a setting that is sound and a state that is valid.
-fn read_valid(p: Plan, t: &[u8], c: Counter, rows: &mut [u32]) -> Reading
-    requires { Readable p c }
-    ensures { Gives (answer_to p t.now c rows.old) result rows.new }
-{
-    match judge_frame(p, t) {
-        Judged::Rows(k) => give(p, t, c, rows, k),
-        Judged::Refused(n, q) => refuse(rows, n, q),
-    }
-}
-
-// With a setting that is sound: the state comes before the frame.
-fn read_sound(p: Plan, t: &[u8], c: Counter, rows: &mut [u32]) -> Reading
-    requires { Ready p }
-    ensures { Gives (read_of (setting p) t.now c rows.old) result rows.new }
-{
-    if valid(p.ctrwidth, c) {
-        return read_valid(p, t, c, rows);
-    }
-    refuse(rows, 1, 0)
-}
-
-// Reads a frame: its rows at the front of the table and the state behind it, or the refusal, which changes nothing.
-pub fn read(s: Setting, t: &[u8], c: Counter, rows: &mut [u32]) -> Reading
-    ensures { Gives (read_of s t.now c rows.old) result rows.new }
-{
-    match plan_for(s) {
-        Planned::Sound(p) => read_sound(p, t, c, rows),
-        Planned::Unsound => refuse(rows, 1, 0),
-    }
 }
 
 // The same with the state lent: it is advanced where it lies, unless the read is refused.
