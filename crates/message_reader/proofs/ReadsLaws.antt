@@ -1,7 +1,7 @@
 -- Where the loops start, what is judged, and the answer to a state that is not valid or an input that is too long.
 use Prim.Native.Nat.{ℕ, ◌+◌, ◌*◌, ◌<◌, ◌≤◌}
 use native.Mathlib.Omega.{arith}
-use mathlib.Core.Path.{◌≡◌, sym, ◌∙◌}
+use mathlib.Core.Path.{◌≡◌, refl, sym, ◌∙◌}
 use mathlib.Core.Bool.{Bool, true, false}
 use mathlib.Core.List.{List}
 use lib.ListN.{length}
@@ -9,18 +9,18 @@ use lib.Dec.{eqb}
 use borrow.Author.Rules.{rules}
 use borrow.Author.Tests.{ltb-true, ltb-false, lt-ltb, le-ltb, eq-eqb}
 use Rattle.packet.specs.declared.Counter.{Counter}
-use Rattle.packet.specs.declared.Reading.{Reading}
-use Rattle.packet.specs.declared.Reading.TheVariants as R
-use Rattle.packet.specs.Answer.{Gives, bounded, read_refused}
+use Rattle.packet.specs.Reading.{Reading}
+use Rattle.packet.specs.Reading.{Reading as R}
+use Rattle.packet.specs.Answer.{Gives, bounded}
 use Rattle.packet.specs.Counter.{valid}
 use Rattle.packet.specs.Limit.{most_bytes}
-use Rattle.packet.proofs.AnswerLaws.{gives_so}
+use Rattle.packet.proofs.AnswerLaws.{gives, gives_so}
 use Rattle.plan.specs.declared.Plan.{Plan}
 use Rattle.plan.specs.Plan.{most_of, Cased, Messages}
 use Rattle.plan.proofs.CaseLaws.{by_test}
 use Rattle.reading.specs.Loops.{Standing}
 use Rattle.reading.specs.Reads.{reads}
-use Rattle.rows.specs.declared.Judged.TheVariants.{Rows, Refused}
+use Rattle.rows.specs.Count.{Judged.Rows, Judged.Refused}
 use Rattle.rows.specs.Count.{JudgedAs}
 use Rattle.rows.specs.Fill.{Filled.filled, filling}
 use Rattle.rows.proofs.AnswerLaws.{not_judged, is-refused, is_crowded, is-given}
@@ -73,32 +73,34 @@ pub ruleset cases = (in_datagram, packed, packed-bare, packed-full, in-layout)
 
 ---- What is read ---------------------------------------------------------------------------------------------------------------
 
-module _ (p : Plan) (t : List ℕ) (c : Counter) (rows : List ℕ) {a : Reading} {new : List ℕ} where
+module _ (p : Plan) (t : List ℕ) (c : Counter) (rows : List ℕ) where
+  -- a refusal with n at q, which leaves the table
+  abbrev Refuses : (n q : ℕ) → Type 0
+  Refuses n q = Gives (answer_by p t c rows) (R.Refused n q) rows
+
   -- a state that is not valid
-  pub not-valid : false ≡ valid p.ctrwidth c → Gives (read_refused rows 1 0) a new → Gives (answer_by p t c rows) a new
+  pub not-valid : false ≡ valid p.ctrwidth c → Refuses 1 0
   unfolding answer_by
-  not-valid e = gives_so (rw (← e) (not_judged _ _ _ _ _))
+  not-valid e = gives (rw (← e) (not_judged _ _ _ _ _))
 
   module _ (e : true ≡ valid p.ctrwidth c) where
     -- too many bytes
-    pub long : most_of p < length t → Gives (read_refused rows 2 0) a new → Gives (answer_by p t c rows) a new
+    pub long : most_of p < length t → Refuses 2 0
     unfolding answer_by bounded
-    long l = gives_so (rw (← e, lt-ltb (most_of p) (length t) l) (not_judged _ _ _ _ _))
+    long l = gives (rw (← e, lt-ltb (most_of p) (length t) l) (not_judged _ _ _ _ _))
 
     -- else the answer is that of what is read
     module _ (l : length t ≤ most_of p) where
-      read_so : Gives (answer_to p t c rows) a new → Gives (answer_by p t c rows) a new
+      read_so : {a : Reading} {new : List ℕ} → Gives (answer_to p t c rows) a new → Gives (answer_by p t c rows) a new
       unfolding answer_by bounded
       read_so = gives_so (rw (← e, le-ltb (most_of p) (length t) l))
 
-      pub refused-so : {n q : ℕ} → JudgedAs 0 (reads p t (first p)) (length t) (Refused n q) → Gives (read_refused rows n q) a new
-          → Gives (answer_by p t c rows) a new
-      refused-so g x = read_so (is-refused _ _ rows g x)
+      pub refused-so : {n q : ℕ} → JudgedAs 0 (reads p t (first p)) (length t) (Refused n q) → Refuses n q
+      refused-so g = read_so (is-refused _ _ rows g (record { answer = refl; lent = refl }))
 
       -- the table has no room for the rows
-      pub crowded : {k : ℕ} → JudgedAs 0 (reads p t (first p)) (length t) (Rows k) → length rows < 5 * k → Gives (read_refused rows 4 0) a new
-          → Gives (answer_by p t c rows) a new
-      crowded g u x = read_so (is_crowded _ _ rows g u x)
+      pub crowded : {k : ℕ} → JudgedAs 0 (reads p t (first p)) (length t) (Rows k) → length rows < 5 * k → Refuses 4 0
+      crowded g u = read_so (is_crowded _ _ rows g u (record { answer = refl; lent = refl }))
 
 pub rows-given : (p : Plan) (t : List ℕ) (c : Counter) (rows : List ℕ) → true ≡ valid p.ctrwidth c → length t ≤ most_of p → {k : ℕ}
     → JudgedAs 0 (reads p t (first p)) (length t) (Rows k) → 5 * k ≤ length rows → {new : List ℕ} {d : Counter}
@@ -115,5 +117,3 @@ roomy {t = t} k e l g u =
     let s = first-standing t k.messages l in
     let m = not_long t k.messages l in
     record { kind = k; start = record { standing = s; sane = r; rows = g.is; few = omega (arith, g.small); room = u } }
-
-pub ruleset readings = (not-valid, long, begun, refused-so, crowded, roomy, rows-given)

@@ -5,42 +5,43 @@
 ghost use Rattle.std.specs.Prelude.{◌≡◌, length};
 ghost use Rattle.packet.specs.Answer.{Gives};
 ghost use Rattle.reading.specs.Reads.{reads};
-ghost use Rattle.rows.specs.Count.{JudgedAs};
+ghost use Rattle.packet.specs.Said.{read_said};
+ghost use Rattle.rows.specs.Count.{JudgedAs, judged_said};
 ghost use Rattle.rows.specs.Fill.{Filled.filled, filling};
 ghost use Rattle.reading.specs.Loops.{Counted, Fillable};
 ghost use Rattle.message_reader.specs.Reads.{first, answer_by, Kind, Packed, Begun, Roomy};
 
-use packet::{At, Counter, Reading};
-use plan::{Plan, most};
+use packet::{At, Counter, Reason, Refusal, Rows};
+use plan::{DATAGRAM, MULTIPLE, Plan, SINGLE, STREAMING};
 use reading::{fill_loop, judge_loop};
-use rows::{Judged, few, refuse, valid};
+use rows::{few, valid};
 
 // Judges an input of data packets. Each call says its layout.
 #[tactic(auto, using(crate::proofs::ReadsLaws::cases))]
-fn judge_packets<const LENWIDTH: usize>(p: Plan, t: &[u8], a: At) -> Judged
+fn judge_packets<const LENWIDTH: usize>(p: Plan, t: &[u8], a: At) -> Result<usize, Refusal>
     requires packed { Packed LENWIDTH p.ctrwidth p.size p }
     requires counted { Counted p t.now a 0 }
-    ensures { JudgedAs 0 (reads p t.now a) (length t.now) result }
+    ensures { JudgedAs 0 (reads p t.now a) (length t.now) (judged_said result) }
 {
     match p.layout {
-        0 => judge_loop::<0, LENWIDTH>(p.ctrwidth, p.size, p.align, p, t, a, 0),
-        1 => judge_loop::<1, LENWIDTH>(p.ctrwidth, p.size, p.align, p, t, a, 0),
-        _ => judge_loop::<2, LENWIDTH>(p.ctrwidth, p.size, p.align, p, t, a, 0),
+        SINGLE => judge_loop::<SINGLE, LENWIDTH>(p.ctrwidth, p.size, p.align, p, t, a, 0),
+        MULTIPLE => judge_loop::<MULTIPLE, LENWIDTH>(p.ctrwidth, p.size, p.align, p, t, a, 0),
+        _ => judge_loop::<STREAMING, LENWIDTH>(p.ctrwidth, p.size, p.align, p, t, a, 0),
     }
 }
 
 // Judges an input. Each call says the bytes of LEN.
 #[tactic(auto, using(crate::proofs::ReadsLaws::cases))]
-fn judge<const DATAGRAM: bool>(p: Plan, t: &[u8]) -> Judged
-    requires { Begun DATAGRAM p t.now }
-    ensures { JudgedAs 0 (reads p t.now (first p)) (length t.now) result }
+fn judge<const IS_DATAGRAM: bool>(p: Plan, t: &[u8]) -> Result<usize, Refusal>
+    requires { Begun IS_DATAGRAM p t.now }
+    ensures { JudgedAs 0 (reads p t.now (first p)) (length t.now) (judged_said result) }
 {
     let a = At {
         q: 0,
         end: p.datapacket,
     };
-    if DATAGRAM {
-        return judge_loop::<4, 2>(2, 4, 1, p, t, a, 0);
+    if IS_DATAGRAM {
+        return judge_loop::<DATAGRAM, 2>(2, 4, 1, p, t, a, 0);
     }
     match p.lenwidth {
         1 => judge_packets::<1>(p, t, a),
@@ -64,16 +65,24 @@ fn fill_packets<const LENWIDTH: usize, const CTRWIDTH: usize>(
     ensures { filled rows.new result ≡ filling p.direction p.ctrwidth rows.old 0 c (reads p t.now a) }
 {
     match p.layout {
-        0 => fill_loop::<0, LENWIDTH, CTRWIDTH>(size, p.align, p, t, a, c, rows, 0, k),
-        1 => fill_loop::<1, LENWIDTH, CTRWIDTH>(size, p.align, p, t, a, c, rows, 0, k),
-        _ => fill_loop::<2, LENWIDTH, CTRWIDTH>(size, p.align, p, t, a, c, rows, 0, k),
+        SINGLE => fill_loop::<SINGLE, LENWIDTH, CTRWIDTH>(size, p.align, p, t, a, c, rows, 0, k),
+        MULTIPLE => fill_loop::<MULTIPLE, LENWIDTH, CTRWIDTH>(
+            size, p.align, p, t, a, c, rows, 0, k,
+        ),
+        _ => fill_loop::<STREAMING, LENWIDTH, CTRWIDTH>(size, p.align, p, t, a, c, rows, 0, k),
     }
 }
 
 // Gives the k rows of an input. Each call says the bytes of LEN and of CTR. With both fields the header is full.
 #[tactic(auto, using(crate::proofs::ReadsLaws::cases))]
-fn fill<const DATAGRAM: bool>(p: Plan, t: &[u8], c: Counter, rows: &mut [u32], k: usize) -> Counter
-    requires { Roomy DATAGRAM p t.now c k (length rows.old) }
+fn fill<const IS_DATAGRAM: bool>(
+    p: Plan,
+    t: &[u8],
+    c: Counter,
+    rows: &mut [u32],
+    k: usize,
+) -> Counter
+    requires { Roomy IS_DATAGRAM p t.now c k (length rows.old) }
     ensures { filled rows.new result
         ≡ filling p.direction p.ctrwidth rows.old 0 c (reads p t.now (first p)) }
 {
@@ -81,8 +90,8 @@ fn fill<const DATAGRAM: bool>(p: Plan, t: &[u8], c: Counter, rows: &mut [u32], k
         q: 0,
         end: p.datapacket,
     };
-    if DATAGRAM {
-        return fill_loop::<4, 2, 2>(4, 1, p, t, a, c, rows, 0, k);
+    if IS_DATAGRAM {
+        return fill_loop::<DATAGRAM, 2, 2>(4, 1, p, t, a, c, rows, 0, k);
     }
     match p.lenwidth {
         1 => match p.ctrwidth {
@@ -97,30 +106,26 @@ fn fill<const DATAGRAM: bool>(p: Plan, t: &[u8], c: Counter, rows: &mut [u32], k
 }
 
 // Reads by a plan: the state is tested, then the length, then what is read, and last the room for the rows.
-#[tactic(auto, using(crate::proofs::ReadsLaws::readings))]
-pub fn read_planned<const DATAGRAM: bool>(
+pub fn read_planned<const IS_DATAGRAM: bool>(
     p: Plan,
     t: &[u8],
     c: Counter,
     rows: &mut [u32],
-) -> Reading
-    requires { Kind DATAGRAM p }
-    ensures { Gives (answer_by p t.now c rows.old) result rows.new }
+) -> Result<Rows, Refusal>
+    requires { Kind IS_DATAGRAM p }
+    ensures { Gives (answer_by p t.now c rows.old) (read_said result) rows.new }
 {
     if !valid(p.ctrwidth, c) {
-        return refuse(rows, 1, 0);
+        return Err(Refusal::whole(Reason::Unsound));
     }
-    if most(p) < t.len() {
-        return refuse(rows, 2, 0);
+    if p.most() < t.len() {
+        return Err(Refusal::whole(Reason::Mismatch));
     }
-    let k = match judge::<DATAGRAM>(p, t) {
-        Judged::Rows(k) => k,
-        Judged::Refused(n, q) => return refuse(rows, n, q),
-    };
+    let k = judge::<IS_DATAGRAM>(p, t)?;
     if few(rows.len(), k) {
-        return refuse(rows, 4, 0);
+        return Err(Refusal::whole(Reason::NoRoom));
     }
-    let state = fill::<DATAGRAM>(p, t, c, rows, k);
+    let state = fill::<IS_DATAGRAM>(p, t, c, rows, k);
     let count = k as u32;
-    Reading::Rows(count, state)
+    Ok(Rows { count, state })
 }

@@ -3,12 +3,12 @@ use Rattle.std.specs.Prelude.{ℕ, ◌+◌, ◌*◌, ◌^◌, ◌<◌, ◌≤◌
 use Rattle.packet.specs.declared.At.{At}
 use Rattle.packet.specs.declared.Counter.{Counter}
 use Rattle.packet.specs.declared.Found.{Found}
-use Rattle.packet.specs.declared.Seen.{Seen}
-use Rattle.packet.specs.declared.Seen.TheVariants as S
+use Rattle.packet.specs.Seen.{Seen}
+use Rattle.packet.specs.Seen.{Seen as S}
 use Rattle.packet.specs.Limit.{most_bytes}
 use Rattle.plan.specs.declared.Plan.{Plan}
 use Rattle.plan.specs.Plan.{Sized}
-use Rattle.rows.specs.declared.Judged.TheVariants.{Rows}
+use Rattle.rows.specs.Count.{Judged.Rows}
 use Rattle.rows.specs.Count.{counted}
 use Rattle.rows.specs.Counters.{Sane}
 use Rattle.reading.specs.Reads.{reads}
@@ -50,11 +50,16 @@ pub record Len (tests : Bool) (p : Plan) (t : List ℕ) (h end r : ℕ) : Type 0
   pub is : r ≡ len_at tests p t h end
   pub small : r < 65536
 
+-- a place that is no further than its data packet's end
+pub record Ended (p : Plan) (a : At) : Type 0 where
+  pub short : a.q ≤ a.end
+  pub end : a.end + p.datapacket ≤ 1000000
+
 -- a place whose header would stand at h
 pub record Bare (p : Plan) (a : At) (h : ℕ) : Type 0 where
   pub sized : Sized p
   pub near : h ≤ 1000000
-  pub end : a.end + p.datapacket ≤ 1000000
+  pub ended : Ended p a
 
 -- a header at h that lies inside the input
 pub record Findable (p : Plan) (t : List ℕ) (h : ℕ) : Type 0 where

@@ -5,7 +5,7 @@ use mathlib.Core.Bool.{true, false}
 use mathlib.Core.List.{List}
 use lib.ListN.{length}
 use Rattle.packet.specs.declared.Counter.{Counter}
-use Rattle.packet.specs.declared.Reading.{Reading}
+use Rattle.packet.specs.Reading.{Reading}
 use Rattle.packet.specs.Answer.{Gives, bounded, read_refused}
 use Rattle.packet.specs.Counter.{valid}
 use Rattle.packet.proofs.AnswerLaws.{gives_so}
