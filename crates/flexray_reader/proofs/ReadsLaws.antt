@@ -10,11 +10,10 @@ use Rattle.layout.specs.Field.{says, Name.NAX}
 use Rattle.layout.specs.Leaf.{Number}
 use Rattle.layout.specs.Walk.{Out.refused}
 use Rattle.packet.specs.declared.Counter.{Counter}
-use Rattle.packet.specs.Reading.{Reading}
-use Rattle.packet.specs.Reading.{Reading as R}
+use Rattle.packet.specs.Reading.{Reading, Reading as R}
 use Rattle.packet.specs.Counter.{valid}
-use Rattle.packet.specs.Answer.{Gives, read_refused}
-use Rattle.packet.proofs.AnswerLaws.{gives_so}
+use Rattle.packet.specs.Answer.{Gives}
+use Rattle.packet.proofs.AnswerLaws.{gives, gives_so}
 use Rattle.rows.specs.Count.{Judged}
 use Rattle.rows.specs.Count.{Judged.Rows, Judged.Refused}
 use Rattle.rows.specs.Count.{counted, Small, JudgedAs}
@@ -29,7 +28,7 @@ use Rattle.flexray.specs.Reading.{ahead, judged, read_of}
 use Rattle.flexray.proofs.ReadLaws.{judged-is, read_sound}
 use Rattle.flexray.proofs.ReadLaws.{Judged as Why}
 use Rattle.plan.specs.declared.Plan.{Plan}
-use Rattle.plan.specs.declared.Planned.TheVariants as P
+use Rattle.std.specs.Prelude.{Some, None}
 use Rattle.flexray_plan.specs.Plan.{setting, planned_of, Ready}
 use Rattle.flexray_plan.proofs.PlanLaws.{planned-ready, unplanned}
 use Rattle.flexray_reader.specs.Reads.{framing, Fillable, answer_to}
@@ -92,34 +91,45 @@ fillable {p} {t} {k = k} y v j l =
     let x = sane (sym v) in
     search rules
 
-pub ready : (s : Setting) {p : Plan} → P.Sound p ≡ planned_of s → Ready p
+pub ready : (s : Setting) {p : Plan} → Some p ≡ planned_of s → Ready p
 ready s i = (planned-ready i).1
 
-module _ (s : Setting) (t : List ℕ) (c : Counter) (rows : List ℕ) {r : Reading} {new : List ℕ} where
-  -- for every state
-  pub unsound : P.Unsound ≡ planned_of s → Gives (read_refused rows 1 0) r new → Gives (read_of s t c rows) r new
-  unfolding read_of judged
-  unsound i = gives_so (rw (unplanned s i) (not_sound _ _ _ (valid (W s) c)))
+-- by a plan
+module _ {p : Plan} (k : Ready p) (t : List ℕ) (c : Counter) (rows : List ℕ) where
+  over : false ≡ valid p.ctrwidth c → Gives (read_of (setting p) t c rows) (R.Refused 1 0) rows
+  unfolding read_of
+  over v = gives (rw (← k.ctrwidth, ← v) (not_judged _ _ _ _ _))
 
-  module _ {p : Plan} (i : P.Sound p ≡ planned_of s) where
-    pub not-valid : false ≡ valid p.ctrwidth c → Gives (read_refused rows 1 0) r new → Gives (read_of s t c rows) r new
-    unfolding read_of
-    not-valid v = let (f, k) = planned-ready i in rw f at (gives_so (rw (← k.ctrwidth, ← v) (not_judged _ _ _ _ _)))
+  held-by : true ≡ valid p.ctrwidth c → {r : Reading} {new : List ℕ} → Gives (answer_to p t c rows) r new
+      → Gives (read_of (setting p) t c rows) r new
+  unfolding read_of
+  held-by v = gives_so (rw (← k.ctrwidth, ← v))
+
+module _ (s : Setting) (t : List ℕ) (c : Counter) (rows : List ℕ) where
+  -- a refusal with n at q, which leaves the table
+  abbrev Refuses : (n q : ℕ) → Type 0
+  Refuses n q = Gives (read_of s t c rows) (R.Refused n q) rows
+
+  -- for every state
+  pub unsound : None ≡ planned_of s → Refuses 1 0
+  unfolding read_of judged
+  unsound i = gives (rw (unplanned s i) (not_sound _ _ _ (valid (W s) c)))
+
+  module _ {p : Plan} (i : Some p ≡ planned_of s) where
+    pub not-valid : false ≡ valid p.ctrwidth c → Refuses 1 0
+    not-valid v = let (f, k) = planned-ready i in rw f at (over k t c rows v)
 
     module _ (v : true ≡ valid p.ctrwidth c) where
-      held : Gives (answer_to p t c rows) r new → Gives (read_of s t c rows) r new
-      unfolding read_of
-      held g = let (f, k) = planned-ready i in rw f at (gives_so (rw (← k.ctrwidth, ← v)) g)
+      held : {r : Reading} {new : List ℕ} → Gives (answer_to p t c rows) r new → Gives (read_of s t c rows) r new
+      held g = let (f, k) = planned-ready i in rw f at (held-by k t c rows v g)
 
-      pub refused-so : {n q : ℕ} → JudgedAs 0 (judged (setting p) t) most_ceiling (Refused n q) → Gives (read_refused rows n q) r new
-          → Gives (read_of s t c rows) r new
-      refused-so j g = held (is-refused _ _ _ j g)
+      pub refused-so : {n q : ℕ} → JudgedAs 0 (judged (setting p) t) most_ceiling (Refused n q) → Refuses n q
+      refused-so j = held (is-refused _ _ _ j (record { answer = refl; lent = refl }))
 
-      pub crowded : {k : ℕ} → JudgedAs 0 (judged (setting p) t) most_ceiling (Rows k) → length rows < 5 * k → Gives (read_refused rows 4 0) r new
-          → Gives (read_of s t c rows) r new
-      crowded j l g = held (is_crowded _ _ _ j l g)
+      pub crowded : {k : ℕ} → JudgedAs 0 (judged (setting p) t) most_ceiling (Rows k) → length rows < 5 * k → Refuses 4 0
+      crowded j l = held (is_crowded _ _ _ j l (record { answer = refl; lent = refl }))
 
-pub rows-given : (s : Setting) (t : List ℕ) (c : Counter) (rows : List ℕ) {p : Plan} → P.Sound p ≡ planned_of s → true ≡ valid p.ctrwidth c → {k : ℕ}
+pub rows-given : (s : Setting) (t : List ℕ) (c : Counter) (rows : List ℕ) {p : Plan} → Some p ≡ planned_of s → true ≡ valid p.ctrwidth c → {k : ℕ}
     → JudgedAs 0 (judged (setting p) t) most_ceiling (Rows k) → 5 * k ≤ length rows → {new : List ℕ} {d : Counter}
     → filled new d ≡ framing p t c rows → Gives (read_of s t c rows) (R.Rows k d) new
 rows-given s t c rows i v j l f = held s t c rows i v (is-given _ _ _ j l f)

@@ -5,10 +5,10 @@ use mathlib.Core.Bool.{true, false}
 use mathlib.Core.List.{List}
 use lib.ListN.{length}
 use Rattle.packet.specs.declared.Counter.{Counter}
-use Rattle.packet.specs.Reading.{Reading}
-use Rattle.packet.specs.Answer.{Gives, bounded, read_refused}
+use Rattle.packet.specs.Reading.{Reading, Reading as R}
+use Rattle.packet.specs.Answer.{Gives, bounded}
 use Rattle.packet.specs.Counter.{valid}
-use Rattle.packet.proofs.AnswerLaws.{gives_so}
+use Rattle.packet.proofs.AnswerLaws.{gives, gives_so}
 use Rattle.packet.proofs.ReadTableLaws.{bounded-same}
 use Rattle.plan.specs.declared.Plan.{Plan}
 use Rattle.message_reader.specs.Reads.{first, answer_by, Kind}
@@ -35,10 +35,11 @@ module _ (s : Setting) (k : sound s ≡ true) (t : List ℕ) where
 pub planned : (s : Setting) → true ≡ sound s → {p : Plan} → p ≡ plan_of s → Kind true p
 planned s k f = record { messages = rw f (messages s (sym k)); is = rw f refl }
 
-module _ (s : Setting) (t : List ℕ) (c : Counter) (rows : List ℕ) {a : Reading} {new : List ℕ} where
-  pub sound_so : true ≡ sound s → {p : Plan} → p ≡ plan_of s → Gives (answer_by p t c rows) a new → Gives (read_of s t c rows) a new
+module _ (s : Setting) (t : List ℕ) (c : Counter) (rows : List ℕ) where
+  pub sound_so : true ≡ sound s → {p : Plan} → p ≡ plan_of s → {a : Reading} {new : List ℕ} → Gives (answer_by p t c rows) a new
+      → Gives (read_of s t c rows) a new
   sound_so k f = gives_so (sym (answer-is s (sym k) t c rows) ∙ rw (← f))
 
-  pub unsound : false ≡ sound s → Gives (read_refused rows 1 0) a new → Gives (read_of s t c rows) a new
+  pub unsound : false ≡ sound s → Gives (read_of s t c rows) (R.Refused 1 0) rows
   unfolding read_of judged bounded
-  unsound i = gives_so (rw (← i) (not_sound _ _ _ (valid W c)))
+  unsound i = gives (rw (← i) (not_sound _ _ _ (valid W c)))

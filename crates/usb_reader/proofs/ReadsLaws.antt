@@ -8,14 +8,14 @@ use mathlib.Core.List.{List}
 use lib.ListN.{length}
 use borrow.Author.Tests.{le-ltb}
 use Rattle.packet.specs.declared.Counter.{Counter}
-use Rattle.packet.specs.Reading.{Reading}
-use Rattle.packet.specs.Answer.{Gives, bounded, read_refused}
+use Rattle.packet.specs.Reading.{Reading, Reading as R}
+use Rattle.packet.specs.Answer.{Gives, bounded}
 use Rattle.packet.specs.Counter.{valid}
 use Rattle.packet.specs.Limit.{most_bytes}
-use Rattle.packet.proofs.AnswerLaws.{gives_so}
+use Rattle.packet.proofs.AnswerLaws.{gives, gives_so}
 use Rattle.packet.proofs.ReadTableLaws.{bounded-same}
 use Rattle.plan.specs.declared.Plan.{Plan}
-use Rattle.plan.specs.declared.Planned.TheVariants as P
+use Rattle.std.specs.Prelude.{Some, None}
 use Rattle.plan.specs.Plan.{most_of}
 use Rattle.message_reader.specs.Reads.{first, answer_by, Kind}
 use Rattle.message_reader.proofs.ReadsLaws.{first-standing}
@@ -43,16 +43,17 @@ module _ {p : Plan} (k : Ready p) (t : List ℕ) where
   unfolding answer_by read_of judged
   answer-is c rows = rw (k.ok, ← k.ctrwidth, most-is k, bounded-same true most_bytes (length t) ahead-is)
 
-pub planned : (s : Setting) {p : Plan} → P.Sound p ≡ planned_of s → Kind false p
+pub planned : (s : Setting) {p : Plan} → Some p ≡ planned_of s → Kind false p
 planned s i =
     let k = (planned-ready i).1 in
     let l = k.layout in
     record { messages = messages k; is = sym (le-ltb 2 _ (omega arith)) }
 
-module _ (s : Setting) (t : List ℕ) (c : Counter) (rows : List ℕ) {a : Reading} {new : List ℕ} where
-  pub sound_so : {p : Plan} → P.Sound p ≡ planned_of s → Gives (answer_by p t c rows) a new → Gives (read_of s t c rows) a new
+module _ (s : Setting) (t : List ℕ) (c : Counter) (rows : List ℕ) where
+  pub sound_so : {p : Plan} → Some p ≡ planned_of s → {a : Reading} {new : List ℕ} → Gives (answer_by p t c rows) a new
+      → Gives (read_of s t c rows) a new
   sound_so i = let (f, k) = planned-ready i in gives_so (sym (answer-is k t c rows ∙ rw f))
 
-  pub unsound : P.Unsound ≡ planned_of s → Gives (read_refused rows 1 0) a new → Gives (read_of s t c rows) a new
+  pub unsound : None ≡ planned_of s → Gives (read_of s t c rows) (R.Refused 1 0) rows
   unfolding read_of judged bounded
-  unsound i = gives_so (rw (unplanned s i) (not_sound _ _ _ (valid (W s) c)))
+  unsound i = gives (rw (unplanned s i) (not_sound _ _ _ (valid (W s) c)))
