@@ -1,22 +1,19 @@
--- The answer before a frame is judged; what it is judged to be by its length and its node; and what follows where it has rows.
+-- What a frame is judged to be by its length and its node; and the answer to it.
 use Prim.Native.Nat.{ℕ, ◌+◌, ◌*◌, ◌%◌, ◌<◌, ◌≤◌}
 use native.Mathlib.Omega.{arith}
 use mathlib.Core.Path.{◌≡◌, refl, sym, ap, ◌∙◌}
-use mathlib.Core.Bool.{Bool, true, false}
+use mathlib.Core.Bool.{true, false}
 use mathlib.Core.List.{List}
 use lib.ListN.{length}
-use lib.Dec.{ltb}
 use borrow.Author.Rules.{rules}
-use borrow.Author.Tests.{ltb-true, ltb-false}
 use Rattle.layout.specs.Field.{says, Name.NAX}
 use Rattle.layout.specs.Leaf.{Number}
 use Rattle.layout.specs.Walk.{Out.refused}
 use Rattle.packet.specs.declared.Counter.{Counter}
 use Rattle.packet.specs.Reading.{Reading, Reading as R}
 use Rattle.packet.specs.Counter.{valid}
-use Rattle.packet.specs.Answer.{Gives, read_refused}
-use Rattle.packet.specs.Limit.{Short}
-use Rattle.packet.proofs.AnswerLaws.{gives_so}
+use Rattle.packet.specs.Answer.{Gives}
+use Rattle.packet.proofs.AnswerLaws.{gives, gives_so}
 use Rattle.rows.specs.Count.{Judged}
 use Rattle.rows.specs.Count.{Judged.Rows, Judged.Refused}
 use Rattle.rows.specs.Count.{counted, Small, JudgedAs}
@@ -31,51 +28,11 @@ use Rattle.flexray.specs.Reading.{ahead, judged, read_of}
 use Rattle.flexray.proofs.ReadLaws.{judged-is, read_sound}
 use Rattle.flexray.proofs.ReadLaws.{Judged as Why}
 use Rattle.plan.specs.declared.Plan.{Plan}
-use Rattle.std.specs.Prelude.{Option, Some, None}
+use Rattle.std.specs.Prelude.{Some, None}
 use Rattle.flexray_plan.specs.Plan.{setting, planned_of, Ready}
 use Rattle.flexray_plan.proofs.PlanLaws.{planned-ready, unplanned}
-use Rattle.flexray_reader.specs.Reads.{framing, Fillable, answer_to, Readable, Giveable}
+use Rattle.flexray_reader.specs.Reads.{framing, Fillable, answer_to}
 use Rattle.flexray_reader.proofs.FrameLaws.{refuses}
-
--- by the plan
-module _ (s : Setting) {x : Option Plan} (e : x ≡ planned_of s) where
-  pub plan_ready : {p : Plan} → x ≡ Some p → Ready p
-  plan_ready f = (planned-ready (sym f ∙ e)).1
-
-  module _ (t : List ℕ) (c : Counter) (rows : List ℕ) {r : Reading} {new : List ℕ} where
-    pub by_plan : {p : Plan} → x ≡ Some p → Gives (read_of (setting p) t c rows) r new → Gives (read_of s t c rows) r new
-    by_plan f g = rw (planned-ready (sym f ∙ e)).0 at g
-
-    -- for every state
-    pub unsound : x ≡ None → Gives (read_refused rows 1 0) r new → Gives (read_of s t c rows) r new
-    unfolding read_of judged
-    unsound f = gives_so (rw (unplanned s (sym f ∙ e)) (not_sound _ _ _ (valid (W s) c)))
-
--- by the state
-module _ {p : Plan} (k : Ready p) (c : Counter) {v : Bool} (e : v ≡ valid p.ctrwidth c) where
-  pub readable : v ≡ true → Readable p c
-  readable f = record { ready = k; sane = sane (sym e ∙ f) }
-
-  module _ (t rows : List ℕ) {r : Reading} {new : List ℕ} where
-    pub held : v ≡ true → Gives (answer_to p t c rows) r new → Gives (read_of (setting p) t c rows) r new
-    unfolding read_of
-    held f = gives_so (rw (← k.ctrwidth, sym e ∙ f))
-
-    pub over : v ≡ false → Gives (read_refused rows 1 0) r new → Gives (read_of (setting p) t c rows) r new
-    unfolding read_of
-    over f = gives_so (rw (← k.ctrwidth, sym e ∙ f) (not_judged _ _ _ _ _))
-
--- by what was judged
-module _ {p : Plan} {c : Counter} (h : Readable p c) (t : List ℕ) {x : Judged} (j : JudgedAs 0 (judged (setting p) t) most_ceiling x) where
-  pub giveable : {k : ℕ} → x ≡ Rows k → Giveable p t c k
-  giveable f = let y = rw f at j in search rules
-
-  module _ {n q : ℕ} (f : x ≡ Refused n q) where
-    pub place : Short q
-    place = let y = rw f at j in search rules
-
-    pub refusal : (rows : List ℕ) {r : Reading} {new : List ℕ} → Gives (read_refused rows n q) r new → Gives (answer_to p t c rows) r new
-    refusal rows = is-refused _ _ _ (rw f at j)
 
 ---- A frame's length and node --------------------------------------------------------------------------------------------------
 
@@ -121,29 +78,62 @@ module _ {p : Plan} (k : Ready p) (t : List ℕ) where
           let i : length t ≤ most_ceiling = omega (arith, k.ceiling-most) in
           record { is = j.is ∙ ap (counted 0) (sym (walk_is z)); small = smaller (length t) most_ceiling r i j.small }
 
----- A frame that has rows ------------------------------------------------------------------------------------------------------
+---- The answer -----------------------------------------------------------------------------------------------------------------
 
-module _ {p : Plan} {t : List ℕ} {c : Counter} {k : ℕ} (g : Giveable p t c k) {f : Bool} where
-  -- it is as long as a frame is to be, and was walked
-  pub fillable : {n : ℕ} → f ≡ ltb n (5 * k) → f ≡ false → Fillable p t c k n
-  fillable {n} i j =
-      let l = ltb-false n (5 * k) (sym i ∙ j) in
-      let y = g.ready in
-      let (ms, u, d) = counted-list 0 k (judged (setting p) t) g.judged.is in
-      let z = (read_sound (setting p) t ms u).sized in
-      let w = walk_is y t z in
-      let e = g.judged.is ∙ ap (counted 0) w in
-      search rules
+-- it is as long as a frame is to be, and was walked
+pub fillable : {p : Plan} {t : List ℕ} {c : Counter} {k n : ℕ} → Ready p → true ≡ valid p.ctrwidth c → JudgedAs 0 (judged (setting p) t) most_ceiling (Rows k)
+    → 5 * k ≤ n → Fillable p t c k n
+fillable {p} {t} {k = k} y v j l =
+    let (ms, u, d) = counted-list 0 k (judged (setting p) t) j.is in
+    let z = (read_sound (setting p) t ms u).sized in
+    let w = walk_is y t z in
+    let e = j.is ∙ ap (counted 0) w in
+    let x = sane (sym v) in
+    search rules
 
-  module _ (rows : List ℕ) (i : f ≡ ltb (length rows) (5 * k)) {new : List ℕ} where
-    pub crowded : f ≡ true → {r : Reading} → Gives (read_refused rows 4 0) r new → Gives (answer_to p t c rows) r new
-    crowded j = is_crowded _ _ _ g.judged (ltb-true (length rows) (5 * k) (sym i ∙ j))
+pub ready : (s : Setting) {p : Plan} → Some p ≡ planned_of s → Ready p
+ready s i = (planned-ready i).1
 
-    pub gives_rows : f ≡ false → {d : Counter} → filled new d ≡ framing p t c rows → Gives (answer_to p t c rows) (R.Rows k d) new
-    gives_rows j = is-given _ _ _ g.judged (ltb-false (length rows) (5 * k) (sym i ∙ j))
+-- by a plan
+module _ {p : Plan} (k : Ready p) (t : List ℕ) (c : Counter) (rows : List ℕ) where
+  over : false ≡ valid p.ctrwidth c → Gives (read_of (setting p) t c rows) (R.Refused 1 0) rows
+  unfolding read_of
+  over v = gives (rw (← k.ctrwidth, ← v) (not_judged _ _ _ _ _))
+
+  held-by : true ≡ valid p.ctrwidth c → {r : Reading} {new : List ℕ} → Gives (answer_to p t c rows) r new
+      → Gives (read_of (setting p) t c rows) r new
+  unfolding read_of
+  held-by v = gives_so (rw (← k.ctrwidth, ← v))
+
+module _ (s : Setting) (t : List ℕ) (c : Counter) (rows : List ℕ) where
+  -- a refusal with n at q, which leaves the table
+  abbrev Refuses : (n q : ℕ) → Type 0
+  Refuses n q = Gives (read_of s t c rows) (R.Refused n q) rows
+
+  -- for every state
+  pub unsound : None ≡ planned_of s → Refuses 1 0
+  unfolding read_of judged
+  unsound i = gives (rw (unplanned s i) (not_sound _ _ _ (valid (W s) c)))
+
+  module _ {p : Plan} (i : Some p ≡ planned_of s) where
+    pub not-valid : false ≡ valid p.ctrwidth c → Refuses 1 0
+    not-valid v = let (f, k) = planned-ready i in rw f at (over k t c rows v)
+
+    module _ (v : true ≡ valid p.ctrwidth c) where
+      held : {r : Reading} {new : List ℕ} → Gives (answer_to p t c rows) r new → Gives (read_of s t c rows) r new
+      held g = let (f, k) = planned-ready i in rw f at (held-by k t c rows v g)
+
+      pub refused-so : {n q : ℕ} → JudgedAs 0 (judged (setting p) t) most_ceiling (Refused n q) → Refuses n q
+      refused-so j = held (is-refused _ _ _ j (record { answer = refl; lent = refl }))
+
+      pub crowded : {k : ℕ} → JudgedAs 0 (judged (setting p) t) most_ceiling (Rows k) → length rows < 5 * k → Refuses 4 0
+      crowded j l = held (is_crowded _ _ _ j l (record { answer = refl; lent = refl }))
+
+pub rows-given : (s : Setting) (t : List ℕ) (c : Counter) (rows : List ℕ) {p : Plan} → Some p ≡ planned_of s → true ≡ valid p.ctrwidth c → {k : ℕ}
+    → JudgedAs 0 (judged (setting p) t) most_ceiling (Rows k) → 5 * k ≤ length rows → {new : List ℕ} {d : Counter}
+    → filled new d ≡ framing p t c rows → Gives (read_of s t c rows) (R.Rows k d) new
+rows-given s t c rows i v j l f = held s t c rows i v (is-given _ _ _ j l f)
 
 ---- For search -----------------------------------------------------------------------------------------------------------------
 
-pub ruleset judges = (rules, odd, long, short, other, own)
-
-pub ruleset answers = (rules, plan_ready, by_plan, unsound, readable, held, over, giveable, place, refusal, fillable, crowded, gives_rows)
+pub ruleset judges = (odd, long, short, other, own)

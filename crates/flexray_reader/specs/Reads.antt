@@ -10,7 +10,7 @@ use Rattle.plan.specs.declared.Plan.{Plan}
 use Rattle.reading.specs.Loops.{Counted}
 use Rattle.reading.specs.Loops.{Fillable as Filling}
 use Rattle.rows.specs.Count.{Judged.Rows}
-use Rattle.rows.specs.Count.{counted, JudgedAs}
+use Rattle.rows.specs.Count.{counted}
 use Rattle.rows.specs.Counters.{Sane}
 use Rattle.rows.specs.Fill.{Filled, fill_of}
 use Rattle.flexray.specs.Setting.{fields, H, most_ceiling}
@@ -65,13 +65,3 @@ pub record Fillable (p : Plan) (t : List ℕ) (c : Counter) (k n : ℕ) : Type 0
 -- the answer where the setting and the state are right
 abbrev pub answer_to : Plan → List ℕ → Counter → List ℕ → Answer Reading
 answer_to p t c rows = answered (frame_table p.direction p.ctrwidth c) (frame_state p.ctrwidth c) rows true (judged (setting p) t)
-
-pub record Readable (p : Plan) (c : Counter) : Type 0 where
-  pub ready : Ready p
-  pub sane : Sane p.ctrwidth c
-
--- a frame that was judged to have k rows
-pub record Giveable (p : Plan) (t : List ℕ) (c : Counter) (k : ℕ) : Type 0 where
-  pub ready : Ready p
-  pub sane : Sane p.ctrwidth c
-  pub judged : JudgedAs 0 (judged (setting p) t) most_ceiling (Rows k)

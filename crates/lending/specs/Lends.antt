@@ -3,8 +3,8 @@ use Rattle.std.specs.Prelude.{ℕ, List}
 use Rattle.packet.specs.Answer.{Answer}
 use Rattle.packet.specs.declared.Counter.{Counter}
 use Rattle.packet.specs.Reading.{Reading}
-use Rattle.lent.specs.Told.{Tells}
+use Rattle.lent.specs.Told.{Tells, told_said}
 use Rattle.lending.specs.declared.Lent.{Lent}
 
 abbrev pub Lends : Answer Reading → Counter → Lent → List ℕ → Type 0
-Lends a c r left = Tells a c r.told r.state left
+Lends a c r left = Tells a c (told_said r.told) r.state left

@@ -1,4 +1,5 @@
-// Callers of the readers with the state lent. Each holds a state, lends it for the call, and gives it back as the call left it.
+// Callers of the readers with the state lent. Each holds a state, lends it for the call, and gives it back as the call left it. They are three, and not one
+// over a trait: an impl of it for each setting would be as long as these.
 #![tactic(auto)]
 
 ghost use Rattle.flexray.specs.Reading.{read_of as flexray_read_of};
@@ -6,13 +7,12 @@ ghost use Rattle.udp.specs.Reading.{read_of as udp_read_of};
 ghost use Rattle.usb.specs.Reading.{read_of as usb_read_of};
 ghost use Rattle.lending.specs.Lends.{Lends};
 
-use lent::Told;
-use packet::Counter;
+use packet::{Counter, Refusal};
 
 // What a call with the state lent tells, and the state that it leaves.
-#[derive(Clone, Copy)]
+#[derive(Clone, Copy, Debug, PartialEq, Eq)]
 pub struct Lent {
-    pub told: Told,
+    pub told: Result<u32, Refusal>,
     pub state: Counter,
 }
 

@@ -3,8 +3,7 @@ use Rattle.std.proofs.Common.{◌≡◌, ℕ, List, sym, refl, ◌∙◌}
 use Rattle.packet.specs.declared.Counter.{Counter}
 use Rattle.packet.specs.Reading.{Reading, Reading as R}
 use Rattle.packet.specs.Answer.{Answer, read_number, read_value}
-use Rattle.lent.specs.declared.Told.{Told}
-use Rattle.lent.specs.Told.{told_of, told_number, told_value, Tells}
+use Rattle.lent.specs.Told.{Told, told_of, told_number, told_value, Tells}
 
 -- it is told the number and the value of the answer
 pub told_is : (r : Reading) → (told_number (told_of r) ≡ read_number r) × (told_value (told_of r) ≡ read_value r)

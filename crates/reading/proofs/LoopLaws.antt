@@ -35,31 +35,30 @@ pub record Judging (p : Plan) (t : List ℕ) (j : ℕ) (from a : At) (k : ℕ) :
 pub judging : {p plan : Plan} {t : List ℕ} {a : At} {k : ℕ} → p ≡ plan → Counted plan t a k → Judging p t k a a k
 judging e h = rw e (search rules)
 
-module _ {p : Plan} {t : List ℕ} {j : ℕ} {from a : At} {k : ℕ} (i : Judging p t j from a k) {v : Seen} (s : v ≡ seen p t a) where
+module _ {p : Plan} {t : List ℕ} {j : ℕ} {from a : At} {k : ℕ} (i : Judging p t j from a k) where
   abbrev here : Standing p t a
   here = i.upto.standing
 
-  pub message-judged : {m : Found} {b : At} → v ≡ S.Message m b → Judging p t j from b (k + 1)
-  message-judged {m} {b} e =
-      let x = crossing here s e in
+  pub message-judged : {m : Found} {b : At} → S.Message m b ≡ seen p t a → Judging p t j from b (k + 1)
+  message-judged {m} {b} s =
+      let x = crossing here s in
       let y = i.same ∙ ap (counted k) x.reads-is ∙ counted-before k (message t m) (reads p t b) in
       search rules
 
-  pub rest-judged : {b : At} → v ≡ S.Rest b → Judging p t j from b k
-  rest-judged e =
-      let x = passing here s e in
+  pub rest-judged : {b : At} → S.Rest b ≡ seen p t a → Judging p t j from b k
+  rest-judged s =
+      let x = passing here s in
       let y = i.same ∙ ap (counted k) x.reads-is in
       search rules
 
   -- the whole, by the plan that the caller gave
   module _ {plan : Plan} (r : p ≡ plan) where
-    pub refused-judged : {n q : ℕ} → v ≡ S.Refused n q → JudgedAs j (reads plan t from) (length t) (Refused n q)
-    refused-judged e =
-        let f = sym e ∙ s in
-        rw (← r) (record { is = sym (i.same ∙ rw (reads_on here, ← f)); small = refuses here (rw (← f) at (view p t a)) })
+    pub refused-judged : {n q : ℕ} → S.Refused n q ≡ seen p t a → JudgedAs j (reads plan t from) (length t) (Refused n q)
+    refused-judged s =
+        rw (← r) (record { is = sym (i.same ∙ rw (reads_on here, ← s)); small = refuses here (rw (← s) at (view p t a)) })
 
-    pub nothing_judged : v ≡ S.Nothing → JudgedAs j (reads plan t from) (length t) (Rows k)
-    nothing_judged e = rw (← r) (record { is = sym (i.same ∙ rw (reads_on here, ← s, e, add-zero k)); small = i.upto.least })
+    pub nothing_judged : S.Nothing ≡ seen p t a → JudgedAs j (reads plan t from) (length t) (Rows k)
+    nothing_judged s = rw (← r) (record { is = sym (i.same ∙ rw (reads_on here, ← s, add-zero k)); small = i.upto.least })
 
 ---- The rows -------------------------------------------------------------------------------------------------------------------
 
@@ -104,16 +103,16 @@ module _ {p : Plan} {t : List ℕ} where
     pub all-given : k ≤ j → filled rows c ≡ whole
     all-given l = fill_nothing i.fill (none_left j k (reads p t a) i.count l)
 
-    module _ {v : Seen} (f : Finds p t a v) {m : Found} {b : At} (e : v ≡ S.Message m b) where
+    module _ {m : Found} {b : At} (f : Finds p t a (S.Message m b)) where
       over : Crossing p t a m b
-      over = crossing i.standing f.is e
+      over = crossing i.standing f.is
 
       pub putting : Putting p.direction p.ctrwidth t c m (5 * j) (length rows)
       putting =
           let s = i.standing in
           let x = over.crossed in
           let y = fill_room i.fill (message t m) (reads p t b) over.reads-is in
-          let z = (rw e at f).counts in
+          let z = f.counts in
           search rules
 
       pub message-given : {new : List ℕ} {r : Counter} → Put p.direction p.ctrwidth t c m (5 * j) rows new r
@@ -125,9 +124,9 @@ module _ {p : Plan} {t : List ℕ} where
           let z : Filling p.direction p.ctrwidth whole n (reads p t b) (5 * (j + 1)) r new = rw d (fill_message i.fill over.reads-is u) in
           search rules
 
-    pub rest-given : {v : Seen} {b : At} → Finds p t a v → v ≡ S.Rest b → Giving p t whole n k b j c rows
-    rest-given f e =
-        let x = passing i.standing f.is e in
+    pub rest-given : {b : At} → Finds p t a (S.Rest b) → Giving p t whole n k b j c rows
+    rest-given f =
+        let x = passing i.standing f.is in
         let y = i.count ∙ ap (counted j) x.reads-is in
         let z = fill_rest i.fill x.reads-is in
         search rules
@@ -136,4 +135,4 @@ module _ {p : Plan} {t : List ℕ} where
 
 pub ruleset judgings = (judging, message_less, message-judged, rest_less, rest-judged, refused-judged, nothing_judged)
 
-pub ruleset givings = (giving, putting, message_less, message-given, rest_less, rest-given)
+pub ruleset givings = (giving, going, putting, message_less, message-given, rest_less, rest-given)

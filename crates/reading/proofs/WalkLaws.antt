@@ -1,7 +1,7 @@
 -- What is read from a place on is what the step sees there, and then what is read from the place behind it. Behind `reads_on` nothing knows of turns.
 use Prim.Native.Nat.{ℕ, zero, suc, ◌<◌}
 use native.Mathlib.Omega.{arith}
-use mathlib.Core.Path.{◌≡◌, refl, sym, ap, ◌∙◌}
+use mathlib.Core.Path.{◌≡◌, refl, ap, ◌∙◌}
 use mathlib.Core.List.{List, [], ◌∷◌}
 use Rattle.layout.specs.Walk.{Out, before}
 use Rattle.packet.specs.declared.At.{At}
@@ -48,18 +48,20 @@ module _ {p : Plan} {t : List ℕ} where
       then_same k (goes p t (turns t a)) (reads p t)
       (λ b m. enough (turns t a) (suc (turns t b)) b m.standing m.less (omega arith)) (seen p t a) (view p t a)
 
-  module _ {a : At} (k : Standing p t a) {v : Seen} (s : v ≡ seen p t a) where
-    pub crossing : {m : Found} {b : At} → v ≡ S.Message m b → Crossing p t a m b
-    crossing e = let i = sym e ∙ s in record { crossed = crosses k (rw (← i) at (view p t a)); reads-is = reads_on k ∙ rw (← i) }
+  module _ {a : At} (k : Standing p t a) {b : At} where
+    module _ {m : Found} (s : S.Message m b ≡ seen p t a) where
+      pub crossing : Crossing p t a m b
+      crossing = record { crossed = crosses k (rw (← s) at (view p t a)); reads-is = reads_on k ∙ rw (← s) }
 
-    pub passing : {b : At} → v ≡ S.Rest b → Passing p t a b
-    passing e = let i = sym e ∙ s in record { moved = passes k (rw (← i) at (view p t a)); reads-is = reads_on k ∙ rw (← i) }
+      pub message_less : turns t b < turns t a
+      message_less = crossing.crossed.moved.less
 
-    pub message_less : {m : Found} {b : At} → v ≡ S.Message m b → turns t b < turns t a
-    message_less e = (crossing e).crossed.moved.less
+    module _ (s : S.Rest b ≡ seen p t a) where
+      pub passing : Passing p t a b
+      passing = record { moved = passes k (rw (← s) at (view p t a)); reads-is = reads_on k ∙ rw (← s) }
 
-    pub rest_less : {b : At} → v ≡ S.Rest b → turns t b < turns t a
-    rest_less e = (passing e).moved.less
+      pub rest_less : turns t b < turns t a
+      rest_less = passing.moved.less
 
   -- A transport's own definition of what is ahead, told by the steps, is what is read
   module _ (ahead : ℕ → Out Msg) (Stands : At → Type 0) (tells : (a : At) → Standing p t a → Stands a → Tells ahead Stands t a (seen p t a)) where

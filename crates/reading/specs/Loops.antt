@@ -49,11 +49,16 @@ pub record Len (tests : Bool) (p : Plan) (t : List ℕ) (h end r : ℕ) : Type 0
   pub is : r ≡ len_at tests p t h end
   pub small : r < 65536
 
+-- a place that is no further than its data packet's end
+pub record Ended (p : Plan) (a : At) : Type 0 where
+  pub short : a.q ≤ a.end
+  pub end : a.end + p.datapacket ≤ 1000000
+
 -- a place whose header would stand at h
 pub record Bare (p : Plan) (a : At) (h : ℕ) : Type 0 where
   pub sized : Sized p
   pub near : h ≤ 1000000
-  pub end : a.end + p.datapacket ≤ 1000000
+  pub ended : Ended p a
 
 -- a header at h that lies inside the input
 pub record Findable (p : Plan) (t : List ℕ) (h : ℕ) : Type 0 where

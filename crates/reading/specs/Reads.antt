@@ -2,8 +2,7 @@
 use Rattle.std.specs.Prelude.{ℕ, zero, suc, ◌+◌, ◌-◌, ◌≡◌, List, [], ◌∷◌, length}
 use Rattle.layout.specs.Walk.{Out, before, Out.list, Out.refused}
 use Rattle.packet.specs.declared.At.{At}
-use Rattle.packet.specs.Seen.{Seen}
-use Rattle.packet.specs.Seen.{Nothing, Message, Rest, Refused}
+use Rattle.packet.specs.Seen.{Seen, Seen.Nothing, Seen.Message, Seen.Rest, Seen.Refused}
 use Rattle.packet.specs.Message.{Msg}
 use Rattle.packet.specs.Seen.{message}
 use Rattle.plan.specs.declared.Plan.{Plan}

@@ -1,22 +1,25 @@
 // Reading, written once for every layout: a step that judges and a loop over it, a step that tests no rule and a loop over it that gives the rows.
-// Each caller says its case by literals, all at one call, and the compiler makes a loop for each case.
+// A loop is told its layout and its field widths by const parameters, so there is one for each case. What is no literal at every call, as the alignment,
+// goes as an argument.
 #![tactic(auto)]
 
-ghost use Rattle.std.specs.Prelude.{◌≡◌, ◌+◌, ◌*◌, ◌≤◌, length};
+ghost use Rattle.std.specs.Prelude.{◌≡◌, ◌+◌, ◌*◌, ◌≤◌, length, Ok};
+ghost use Rattle.packet.specs.Said.{sight_said};
 ghost use Rattle.plan.specs.Place.{Near, Beyond};
 ghost use Rattle.plan.specs.Plan.{Cased};
-ghost use Rattle.rows.specs.Count.{JudgedAs};
+ghost use Rattle.rows.specs.Count.{JudgedAs, judged_said};
 ghost use Rattle.rows.specs.Fill.{Filled.filled, filling};
-ghost use Rattle.reading.specs.Loops.{Standing, Counted, Fillable, Header, Len, Bare, Findable, FoundAs, Headed, Going, Finds};
+ghost use Rattle.reading.specs.Loops.{Standing, Counted, Fillable, Header, Len, Ended, Bare, Findable, FoundAs, Headed, Going, Finds};
 ghost use Rattle.reading.specs.Reads.{reads};
 ghost use Rattle.reading.specs.Step.{bare_by, bare_seen, past_at, message_by, seen};
 
 use layout::{both, either, field, least, pick};
-use packet::{At, Counter, Found, Seen};
-use plan::{Plan, behind, cased, header, next_packet, on, rests};
-use rows::{Judged, put};
+use packet::{At, Counter, Found, Reason, Refusal, Sight};
+use plan::{DATAGRAM, FRAME, Plan, SINGLE, STREAMING};
+use rows::put;
 
 // LEN of a header at h, or 0 where no header fits before the end. Where `tests` is false it fits.
+#[tactic(auto, using(crate::proofs::StepLaws::steps))]
 fn len_at(tests: bool, p: Plan, t: &[u8], h: usize, end: usize) -> usize
     requires { Header tests p t.now h end }
     ensures { Len tests p t.now h end result }
@@ -28,31 +31,31 @@ fn len_at(tests: bool, p: Plan, t: &[u8], h: usize, end: usize) -> usize
 }
 
 // What stands where LEN is 0 or no header fits, by three tests: a rest, one of two refusals, or nothing.
-fn bare(rest: bool, some: bool, short: bool, p: Plan, a: At) -> Seen
-    requires { a.end + p.datapacket ≤ 1000000 }
-    ensures { result ≡ bare_by rest some short p a }
+fn bare(rest: bool, some: bool, short: bool, p: Plan, a: At) -> Result<Sight, Refusal>
+    requires { Ended p a }
+    ensures { sight_said result ≡ bare_by rest some short p a }
 {
     if rest {
-        return Seen::Rest(next_packet(p, a));
+        return Ok(Sight::Rest(p.next_packet(a)));
     }
     if some {
         if short {
-            return Seen::Refused(5, a.q);
+            return Err(Refusal::at(Reason::Cut, a.q));
         }
-        return Seen::Refused(6, a.q);
+        return Err(Refusal::at(Reason::Missing, a.q));
     }
-    Seen::Nothing
+    Ok(Sight::Nothing)
 }
 
 // What stands in n bytes at a place whose header, at h, says no length or does not fit.
-fn bare_at(p: Plan, n: usize, a: At, h: usize) -> Seen
+fn bare_at(p: Plan, n: usize, a: At, h: usize) -> Result<Sight, Refusal>
     requires { Bare p a h }
-    ensures { result ≡ bare_seen p n a h }
+    ensures { sight_said result ≡ bare_seen p n a h }
 {
     bare(
-        both(rests(p), a.end < n),
-        both(either(p.layout == 0, p.layout == 4), a.q < n),
-        both(p.layout == 4, n < h + p.size),
+        both(p.rests(), a.end < n),
+        both(either(p.layout == SINGLE, p.layout == DATAGRAM), a.q < n),
+        both(p.layout == DATAGRAM, n < h + p.size),
         p,
         a,
     )
@@ -64,10 +67,10 @@ fn past(p: Plan, e: usize) -> usize
     requires { Near p.align e }
     ensures { Beyond (past_at p e) e result }
 {
-    if 2 < p.layout {
+    if STREAMING < p.layout {
         return e;
     }
-    behind(p, e)
+    p.behind(e)
 }
 
 // The message whose header at h says this length.
@@ -84,40 +87,43 @@ fn found(p: Plan, t: &[u8], h: usize, len: usize) -> Found
 }
 
 // What stands where a header at h says a length, by two tests: a refusal, or the message with the place behind it.
-fn message(over: bool, past: bool, h: usize, m: Found, next: At) -> Seen
-    ensures { result ≡ message_by over past h m next }
+fn message(over: bool, past: bool, h: usize, m: Found, next: At) -> Result<Sight, Refusal>
+    requires { h ≤ 1000000 }
+    ensures { sight_said result ≡ message_by over past h m next }
 {
     if over {
-        return Seen::Refused(3, h);
+        return Err(Refusal::at(Reason::Overlong, h));
     }
     if past {
-        return Seen::Refused(5, h);
+        return Err(Refusal::at(Reason::Cut, h));
     }
-    Seen::Message(m, next)
+    Ok(Sight::Message(m, next))
 }
 
 // What stands at a place whose header says a length.
-fn take(p: Plan, t: &[u8], a: At, h: usize, rest: usize, len: usize) -> Seen
+#[tactic(auto, using(crate::proofs::StepLaws::steps))]
+fn take(p: Plan, t: &[u8], a: At, h: usize, rest: usize, len: usize) -> Result<Sight, Refusal>
     requires { Headed p t.now a h rest len }
-    ensures { result ≡ seen p t.now a }
+    ensures { sight_said result ≡ seen p t.now a }
 {
     let next = past(p, h + p.size + len);
     message(
-        both(p.layout != 3, p.longest < len),
-        pick(p.layout < 2, rest, t.len()) < next,
+        both(p.layout != FRAME, p.longest < len),
+        pick(p.layout < STREAMING, rest, t.len()) < next,
         h,
         found(p, t, h, len),
-        on(p, a, next),
+        p.on(a, next),
     )
 }
 
 // What stands at a place, and the place behind it.
-fn see(p: Plan, t: &[u8], a: At) -> Seen
+#[tactic(auto, using(crate::proofs::StepLaws::steps))]
+fn see(p: Plan, t: &[u8], a: At) -> Result<Sight, Refusal>
     requires { Standing p t.now a }
-    ensures { result ≡ seen p t.now a }
+    ensures { sight_said result ≡ seen p t.now a }
 {
     let n = t.len();
-    let h = header(p, a.q);
+    let h = p.header(a.q);
     let rest = least(a.end, n);
     let len = len_at(true, p, t, h, rest);
     if len == 0 {
@@ -127,24 +133,24 @@ fn see(p: Plan, t: &[u8], a: At) -> Seen
 }
 
 // What stands at a place where a message or a rest stands: no rule is tested.
-fn find(p: Plan, t: &[u8], a: At) -> Seen
+#[tactic(auto, using(crate::proofs::FindLaws::findings))]
+fn find(p: Plan, t: &[u8], a: At) -> Sight
     requires { Going p t.now a }
-    ensures { Finds p t.now a result }
+    ensures { Finds p t.now a (sight_said (Ok result)) }
 {
-    let h = header(p, a.q);
-    let tests = rests(p);
+    let h = p.header(a.q);
+    let tests = p.rests();
     let len = len_at(tests, p, t, h, a.end);
     if both(tests, len == 0) {
-        return Seen::Rest(next_packet(p, a));
+        return Sight::Rest(p.next_packet(a));
     }
     let next = past(p, h + p.size + len);
-    Seen::Message(found(p, t, h, len), on(p, a, next))
+    Sight::Message(found(p, t, h, len), p.on(a, next))
 }
 
 // Judges what is ahead of a place before which so many rows stand, and writes nothing.
-pub fn judge_loop(
-    layout: usize,
-    lenwidth: usize,
+#[tactic(auto, using(crate::proofs::LoopLaws::judgings))]
+pub fn judge_loop<const LAYOUT: usize, const LENWIDTH: usize>(
     ctrwidth: usize,
     size: usize,
     align: usize,
@@ -152,39 +158,33 @@ pub fn judge_loop(
     t: &[u8],
     from: At,
     before: usize,
-) -> Judged
-    requires cased { Cased layout lenwidth ctrwidth size align plan }
+) -> Result<usize, Refusal>
+    requires cased { Cased LAYOUT LENWIDTH ctrwidth size align plan }
     requires counted { Counted plan t.now from before }
-    ensures { JudgedAs before (reads plan t.now from) (length t.now) result }
+    ensures { JudgedAs before (reads plan t.now from) (length t.now) (judged_said result) }
 {
-    let p = cased(layout, lenwidth, ctrwidth, size, align, plan);
+    let p = plan.cased(LAYOUT, LENWIDTH, ctrwidth, size, align);
     let mut a = from;
     let mut rows = before;
     loop {
-        match see(p, t, a) {
-            Seen::Message(_, next) => {
+        match see(p, t, a)? {
+            Sight::Message(_, next) => {
                 rows += 1;
                 a = next;
             }
-            Seen::Rest(next) => {
+            Sight::Rest(next) => {
                 a = next;
             }
-            Seen::Refused(n, q) => {
-                return Judged::Refused(n, q);
-            }
-            Seen::Nothing => {
-                return Judged::Rows(rows);
-            }
+            Sight::Nothing => return Ok(rows),
         }
     }
 }
 
 // Writes the rows of what was judged, from a place on before which so many of the k rows stand, and gives the state behind them. The state's two
-// numbers are kept apart, so that a turn need not wait for the whole state of the one before.
-pub fn fill_loop(
-    layout: usize,
-    lenwidth: usize,
-    ctrwidth: usize,
+// numbers are kept apart, so that a turn need not wait for the whole state of the one before. The rows are counted by hand: a turn that passes a rest
+// writes none.
+#[tactic(auto, using(crate::proofs::LoopLaws::givings))]
+pub fn fill_loop<const LAYOUT: usize, const LENWIDTH: usize, const CTRWIDTH: usize>(
     size: usize,
     align: usize,
     plan: Plan,
@@ -195,19 +195,19 @@ pub fn fill_loop(
     before: usize,
     k: usize,
 ) -> Counter
-    requires cased { Cased layout lenwidth ctrwidth size align plan }
+    requires cased { Cased LAYOUT LENWIDTH CTRWIDTH size align plan }
     requires fillable { Fillable plan t.now from first before k (length rows.old) }
     ensures { filled rows.new result
         ≡ filling plan.direction plan.ctrwidth rows.old (5 * before) first (reads plan t.now from) }
 {
-    let p = cased(layout, lenwidth, ctrwidth, size, align, plan);
+    let p = plan.cased(LAYOUT, LENWIDTH, CTRWIDTH, size, align);
     let mut a = from;
     let mut j = before;
     let mut known = first.known;
     let mut expected = first.expected;
     while j < k {
         match find(p, t, a) {
-            Seen::Message(m, next) => {
+            Sight::Message(m, next) => {
                 let c = Counter { known, expected };
                 let c = put(p.direction, p.ctrwidth, t, c, m, rows, 5 * j);
                 known = c.known;
@@ -215,15 +215,10 @@ pub fn fill_loop(
                 j += 1;
                 a = next;
             }
-            Seen::Rest(next) => {
+            Sight::Rest(next) => {
                 a = next;
             }
-            Seen::Refused(_, _) => {
-                return Counter { known, expected };
-            }
-            Seen::Nothing => {
-                return Counter { known, expected };
-            }
+            Sight::Nothing => unreachable!(),
         }
     }
     Counter { known, expected }

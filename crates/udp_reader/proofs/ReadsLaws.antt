@@ -1,19 +1,17 @@
 -- What is read by the plan of a setting is what the definition says.
 use Prim.Native.Nat.{ℕ, ◌≤◌}
 use mathlib.Core.Path.{◌≡◌, refl, sym, ◌∙◌}
-use mathlib.Core.Bool.{Bool, true, false}
+use mathlib.Core.Bool.{true, false}
 use mathlib.Core.List.{List}
 use lib.ListN.{length}
-use borrow.Author.Rules.{rules}
 use Rattle.packet.specs.declared.Counter.{Counter}
-use Rattle.packet.specs.Reading.{Reading}
-use Rattle.packet.specs.Answer.{Gives, bounded, read_refused}
+use Rattle.packet.specs.Reading.{Reading, Reading as R}
+use Rattle.packet.specs.Answer.{Gives, bounded}
 use Rattle.packet.specs.Counter.{valid}
-use Rattle.packet.proofs.AnswerLaws.{gives_so}
+use Rattle.packet.proofs.AnswerLaws.{gives, gives_so}
 use Rattle.packet.proofs.ReadTableLaws.{bounded-same}
 use Rattle.plan.specs.declared.Plan.{Plan}
-use Rattle.plan.specs.Plan.{Messages}
-use Rattle.message_reader.specs.Reads.{first, answer_by}
+use Rattle.message_reader.specs.Reads.{first, answer_by, Kind}
 use Rattle.message_reader.proofs.ReadsLaws.{first-standing}
 use Rattle.reading.specs.Reads.{reads}
 use Rattle.reading.proofs.WalkLaws.{ahead-reads}
@@ -34,21 +32,14 @@ module _ (s : Setting) (k : sound s ≡ true) (t : List ℕ) where
   unfolding answer_by read_of judged fields
   answer-is c rows = rw (k, bounded-same true most_datagram (length t) ahead-is)
 
-module _ (s : Setting) {b : Bool} (i : b ≡ sound s) where
-  module _ (e : b ≡ true) {p : Plan} (f : p ≡ plan_of s) where
-    pub planned : Messages p
-    planned = rw f (messages s (sym i ∙ e))
+pub planned : (s : Setting) → true ≡ sound s → {p : Plan} → p ≡ plan_of s → Kind true p
+planned s k f = record { messages = rw f (messages s (sym k)); is = rw f refl }
 
-    pub datagram : 4 ≡ p.layout
-    datagram = rw f refl
-
-    pub sound_so : (t : List ℕ) (c : Counter) (rows : List ℕ) {a : Reading} {new : List ℕ} → Gives (answer_by p t c rows) a new
-        → Gives (read_of s t c rows) a new
-    sound_so t c rows = gives_so (sym (answer-is s (sym i ∙ e) t c rows) ∙ rw (← f))
-
-  pub unsound : (t : List ℕ) (c : Counter) (rows : List ℕ) {a : Reading} {new : List ℕ} → b ≡ false → Gives (read_refused rows 1 0) a new
+module _ (s : Setting) (t : List ℕ) (c : Counter) (rows : List ℕ) where
+  pub sound_so : true ≡ sound s → {p : Plan} → p ≡ plan_of s → {a : Reading} {new : List ℕ} → Gives (answer_by p t c rows) a new
       → Gives (read_of s t c rows) a new
-  unfolding read_of judged bounded
-  unsound t c rows e = gives_so (rw (sym i ∙ e) (not_sound _ _ _ (valid W c)))
+  sound_so k f = gives_so (sym (answer-is s (sym k) t c rows) ∙ rw (← f))
 
-pub ruleset readings = (rules, planned, datagram, sound_so, unsound)
+  pub unsound : false ≡ sound s → Gives (read_of s t c rows) (R.Refused 1 0) rows
+  unfolding read_of judged bounded
+  unsound i = gives (rw (← i) (not_sound _ _ _ (valid W c)))

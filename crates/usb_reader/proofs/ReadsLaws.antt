@@ -3,21 +3,21 @@ use Prim.Native.Nat.{ℕ, ◌≤◌}
 use native.Mathlib.Omega.{arith}
 use native.Mathlib.Nat.{mod_self, zero-mod}
 use mathlib.Core.Path.{◌≡◌, sym, ◌∙◌}
-use mathlib.Core.Bool.{true}
+use mathlib.Core.Bool.{true, false}
 use mathlib.Core.List.{List}
 use lib.ListN.{length}
-use borrow.Author.Rules.{rules}
+use borrow.Author.Tests.{le-ltb}
 use Rattle.packet.specs.declared.Counter.{Counter}
-use Rattle.packet.specs.Reading.{Reading}
-use Rattle.packet.specs.Answer.{Gives, bounded, read_refused}
+use Rattle.packet.specs.Reading.{Reading, Reading as R}
+use Rattle.packet.specs.Answer.{Gives, bounded}
 use Rattle.packet.specs.Counter.{valid}
 use Rattle.packet.specs.Limit.{most_bytes}
-use Rattle.packet.proofs.AnswerLaws.{gives_so}
+use Rattle.packet.proofs.AnswerLaws.{gives, gives_so}
 use Rattle.packet.proofs.ReadTableLaws.{bounded-same}
 use Rattle.plan.specs.declared.Plan.{Plan}
-use Rattle.std.specs.Prelude.{Option, Some, None}
-use Rattle.plan.specs.Plan.{most_of, Messages}
-use Rattle.message_reader.specs.Reads.{first, answer_by}
+use Rattle.std.specs.Prelude.{Some, None}
+use Rattle.plan.specs.Plan.{most_of}
+use Rattle.message_reader.specs.Reads.{first, answer_by, Kind}
 use Rattle.message_reader.proofs.ReadsLaws.{first-standing}
 use Rattle.reading.specs.Reads.{reads}
 use Rattle.reading.proofs.WalkLaws.{ahead-reads}
@@ -43,20 +43,17 @@ module _ {p : Plan} (k : Ready p) (t : List ℕ) where
   unfolding answer_by read_of judged
   answer-is c rows = rw (k.ok, ← k.ctrwidth, most-is k, bounded-same true most_bytes (length t) ahead-is)
 
-module _ (s : Setting) {r : Option Plan} (i : r ≡ planned_of s) where
-  module _ {p : Plan} (e : r ≡ Some p) where
-    pub planned : Messages p
-    planned = messages (planned-ready (sym e ∙ i)).1
+pub planned : (s : Setting) {p : Plan} → Some p ≡ planned_of s → Kind false p
+planned s i =
+    let k = (planned-ready i).1 in
+    let l = k.layout in
+    record { messages = messages k; is = sym (le-ltb 2 _ (omega arith)) }
 
-    pub sound_so : (t : List ℕ) (c : Counter) (rows : List ℕ) {a : Reading} {new : List ℕ} → Gives (answer_by p t c rows) a new
-        → Gives (read_of s t c rows) a new
-    sound_so t c rows =
-        let (f, k) = planned-ready (sym e ∙ i) in
-        gives_so (sym (answer-is k t c rows ∙ rw f))
-
-  pub unsound : (t : List ℕ) (c : Counter) (rows : List ℕ) {a : Reading} {new : List ℕ} → r ≡ None → Gives (read_refused rows 1 0) a new
+module _ (s : Setting) (t : List ℕ) (c : Counter) (rows : List ℕ) where
+  pub sound_so : {p : Plan} → Some p ≡ planned_of s → {a : Reading} {new : List ℕ} → Gives (answer_by p t c rows) a new
       → Gives (read_of s t c rows) a new
-  unfolding read_of judged bounded
-  unsound t c rows e = gives_so (rw (unplanned s (sym e ∙ i)) (not_sound _ _ _ (valid (W s) c)))
+  sound_so i = let (f, k) = planned-ready i in gives_so (sym (answer-is k t c rows ∙ rw f))
 
-pub ruleset readings = (rules, planned, sound_so, unsound)
+  pub unsound : None ≡ planned_of s → Gives (read_of s t c rows) (R.Refused 1 0) rows
+  unfolding read_of judged bounded
+  unsound i = gives (rw (unplanned s i) (not_sound _ _ _ (valid (W s) c)))

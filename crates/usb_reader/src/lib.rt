@@ -2,40 +2,28 @@
 #![tactic(auto)]
 
 ghost use Rattle.packet.specs.Answer.{Gives};
-ghost use Rattle.lent.specs.Told.{Tells};
+ghost use Rattle.packet.specs.Said.{read_said};
+ghost use Rattle.lent.specs.Told.{Tells, told_said};
 ghost use Rattle.usb.specs.Reading.{read_of};
 
-use lent::Told;
-use message_reader::{judge_planned, read_judged};
-use packet::{Counter, Reading};
-use plan::Planned;
-use rows::refuse;
+use lent::advance;
+use message_reader::read_planned;
+use packet::{Counter, Reason, Refusal, Rows};
 use usb::Setting;
 use usb_plan::plan_for;
 
 // Reads a transfer: its rows at the front of the table and the state behind them, or the refusal, which changes nothing.
-pub fn read(s: Setting, t: &[u8], c: Counter, rows: &mut [u32]) -> Reading
-    ensures { Gives (read_of s t.now c rows.old) result rows.new }
+pub fn read(s: Setting, t: &[u8], c: Counter, rows: &mut [u32]) -> Result<Rows, Refusal>
+    ensures { Gives (read_of s t.now c rows.old) (read_said result) rows.new }
 {
-    match plan_for(s) {
-        Planned::Sound(p) => {
-            let j = judge_planned(p.layout, p, t, c);
-            read_judged(p.layout, p, t, c, rows, j)
-        }
-        Planned::Unsound => refuse(rows, 1, 0),
-    }
+    let p = plan_for(s).ok_or(Refusal::whole(Reason::Unsound))?;
+    read_planned::<false>(p, t, c, rows)
 }
 
 // The same with the state lent: it is advanced where it lies, unless the read is refused.
-pub fn read_lent(s: Setting, t: &[u8], c: &mut Counter, rows: &mut [u32]) -> Told
+pub fn read_lent(s: Setting, t: &[u8], c: &mut Counter, rows: &mut [u32]) -> Result<u32, Refusal>
     ensures { Tells (read_of s t.now c.old rows.old) c.old
-        result c.new rows.new }
+        (told_said result) c.new rows.new }
 {
-    match read(s, t, *c, rows) {
-        Reading::Rows(n, state) => {
-            *c = state;
-            Told::Rows(n)
-        }
-        Reading::Refused(number, place) => Told::Refused(number, place),
-    }
+    advance(read(s, t, *c, rows), c)
 }

@@ -1,24 +1,15 @@
--- The count of rows, or the first refusal.
-use Rattle.reading.proofs.LoopLaws.{judgings}
+-- What a turn keeps.
+use Rattle.std.proofs.lemmas.Result.{err_from_is_err_and}
+use Rattle.reading.proofs.LoopLaws.{message-judged, rest-judged, refused-judged}
 use Rattle.reading.proofs.judge_loop.Goals as goal
 
-pub loop-next-init : goal.loop-next-init
-loop-next-init c = search judgings
-
-pub loop-next-smaller-in-Message : goal.loop-next-smaller-in-Message
-loop-next-smaller-in-Message c = search judgings
-
 pub loop-next-preserved-in-Message : goal.loop-next-preserved-in-Message
-loop-next-preserved-in-Message c = search judgings
-
-pub loop-next-smaller : goal.loop-next-smaller
-loop-next-smaller c = search judgings
+loop-next-preserved-in-Message g c = message-judged c.loop-next.invariant (rw c.in-Message.is at c.in_ok-next.ensures)
 
 pub loop-next-preserved : goal.loop-next-preserved
-loop-next-preserved c = search judgings
+loop-next-preserved g c = rest-judged c.loop-next.invariant (rw c.in-Rest.is at c.in_ok-next.ensures)
 
-pub returns-in-Refused : goal.returns-in-Refused
-returns-in-Refused c = search judgings
-
-pub returns-in-Nothing : goal.returns-in-Nothing
-returns-in-Nothing c = search judgings
+pub returns-in_err-next : goal.returns-in_err-next
+returns-in_err-next g c =
+    let r = err_from_is_err_and c.from_residual.result c.from_residual.ensures.1 in
+    rw (r.1, r.2) (refused-judged c.loop-next.invariant c.cased-p.ensures c.in_err-next.ensures)

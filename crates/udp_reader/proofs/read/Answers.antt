@@ -1,30 +1,12 @@
 -- The setting decides.
-use Rattle.udp_reader.proofs.ReadsLaws.{readings}
+use Rattle.udp_reader.proofs.ReadsLaws.{planned, sound_so, unsound}
 use Rattle.udp_reader.proofs.read.Goals as goal
 
-pub sound-requires : goal.sound-requires
-sound-requires c = search readings
+pub returns-then-not-sound : goal.returns-then-not-sound
+returns-then-not-sound c = rw c.whole.ensures (unsound _ _ _ _ c.if-not-sound.ensures)
 
-pub plan_of-p-requires : goal.plan_of-p-requires
-plan_of-p-requires c = search readings
-
-pub judge_planned-j-requires : goal.judge_planned-j-requires
-judge_planned-j-requires c = search readings
-
-pub read_judged-requires : goal.read_judged-requires
-read_judged-requires c = search readings
-
-pub shape_of-rows-then-sound : goal.shape_of-rows-then-sound
-shape_of-rows-then-sound c = search readings
-
-pub returns-then-sound : goal.returns-then-sound
-returns-then-sound c = search readings
-
-pub refuse-requires : goal.refuse-requires
-refuse-requires c = search readings
-
-pub shape_of-rows : goal.shape_of-rows
-shape_of-rows c = search readings
+pub read_planned-requires : goal.read_planned-requires
+read_planned-requires c = planned _ c.if-not-sound.ensures c.plan_of.ensures
 
 pub returns : goal.returns
-returns c = search readings
+returns c = sound_so _ _ _ _ c.if-not-sound.ensures c.plan_of.ensures c.read_planned.ensures

@@ -1,33 +1,19 @@
 -- The plan decides.
-use Rattle.usb_reader.proofs.ReadsLaws.{readings}
+use Rattle.std.proofs.Common.{arith, ◌≡◌, sym, ◌∙◌}
+use Rattle.std.proofs.lemmas.Result.{err_from_is_err_and}
+use Rattle.packet.specs.declared.Reason.TheVariants.{Unsound}
+use Rattle.packet.specs.Said.{refusal_at}
+use Rattle.usb_reader.proofs.ReadsLaws.{planned, sound_so, unsound}
 use Rattle.usb_reader.proofs.read.Goals as goal
 
-pub plan_for-requires : goal.plan_for-requires
-plan_for-requires c = search readings
+pub returns-in_err-p : goal.returns-in_err-p
+returns-in_err-p c =
+    let r = err_from_is_err_and c.from_residual.result c.from_residual.ensures.1 in
+    let e : c.in_err-p.field-0.0 ≡ refusal_at Unsound 0 = grind arith in
+    rw (r.1, r.2, e) (unsound _ _ _ _ (sym c.in_err-p.ensures.ok_part ∙ c.plan_for.ensures))
 
-pub enum_known-p : goal.enum_known-p
-enum_known-p c = search readings
+pub read_planned-requires : goal.read_planned-requires
+read_planned-requires c = planned _ (sym c.in_ok-p.ensures.ok_part ∙ c.plan_for.ensures)
 
-pub judge_planned-j-requires : goal.judge_planned-j-requires
-judge_planned-j-requires c = search readings
-
-pub read_judged-requires : goal.read_judged-requires
-read_judged-requires c = search readings
-
-pub enum_told-1 : goal.enum_told-1
-enum_told-1 c = search readings
-
-pub refuse-requires : goal.refuse-requires
-refuse-requires c = search readings
-
-pub shape_of-rows-in-Sound : goal.shape_of-rows-in-Sound
-shape_of-rows-in-Sound c = search readings
-
-pub returns-in-Sound : goal.returns-in-Sound
-returns-in-Sound c = search readings
-
-pub shape_of-rows-in-Unsound : goal.shape_of-rows-in-Unsound
-shape_of-rows-in-Unsound c = search readings
-
-pub returns-in-Unsound : goal.returns-in-Unsound
-returns-in-Unsound c = search readings
+pub returns : goal.returns
+returns c = sound_so _ _ _ _ (sym c.in_ok-p.ensures.ok_part ∙ c.plan_for.ensures) c.read_planned.ensures
