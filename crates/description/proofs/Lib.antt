@@ -1,8 +1,9 @@
 pub mod AheadLaws
 pub mod AnswerLaws
 pub mod BlockLaws
+pub mod DescribedLaws
 pub mod Example
+pub mod PlaceLaws
 pub mod RuleLaws
 pub mod StandingLaws
 pub mod TurnLaws
-pub mod PlaceLaws

@@ -16,11 +16,11 @@ use Rattle.packet.specs.Said.{number_of, kind_said, read_said, write_said, check
 ---- Numbers --------------------------------------------------------------------------------------------------------------------
 
 -- the reason with this number
-abbrev reason_at : ℕ → Reason
+abbrev pub reason_at : ℕ → Reason
 reason_at n =
     get_or (Y.Unsound ∷ Y.Unsound ∷ Y.Mismatch ∷ Y.Overlong ∷ Y.NoRoom ∷ Y.Cut ∷ Y.Missing ∷ Y.Foreign ∷ Y.Misframed ∷ []) n Y.Misplaced
 
-reason_back : (r : Reason) → reason_at (number_of r) ≡ r
+pub reason_back : (r : Reason) → reason_at (number_of r) ≡ r
 reason_back Y.Unsound = refl
 reason_back Y.Mismatch = refl
 reason_back Y.Overlong = refl

@@ -1,7 +1,7 @@
 // Reading over a block: words and paired blocks, up to the block's end.
 #![tactic(auto)]
 
-ghost use Rattle.std.specs.Prelude.{◌≡◌, ◌-◌, ◌<◌, ◌≤◌, length};
+ghost use Rattle.std.specs.Prelude.{replicate, ◌≡◌, ◌-◌, ◌<◌, ◌≤◌, length};
 ghost use Rattle.passing.specs.Names.{name_in, Lying, held};
 ghost use Rattle.passing.specs.Passing.{Needed, Says, Signed, NextName, Held, Turned, inside_of, opening, closing, Passable, Passed};
 
@@ -27,7 +27,7 @@ pub struct Names {
 impl Names {
     // No block is open.
     pub fn new() -> Names
-        ensures { result.depth ≡ 0 }
+        ensures { (result.depth ≡ 0) × (result.places ≡ replicate 2340 (0, 0)) }
     {
         Names {
             places: [(0, 0); 2340],

@@ -4,6 +4,7 @@
 use Prim.Native.Nat.{ℕ}
 use mathlib.Core.Path.{◌≡◌, sym, ap, ◌∙◌}
 use mathlib.Core.List.{List}
+use Rattle.std.specs.Prelude.{Result}
 use Rattle.layout.proofs.all.Reads as All
 use Rattle.layout.proofs.both.Reads as BothTests
 use Rattle.layout.proofs.either.Reads as Either
@@ -14,25 +15,37 @@ use Rattle.layout.proofs.put_field.Reads as PutField
 use Rattle.layout.proofs.wide32.Reads as Wide
 use Rattle.packet.specs.declared.Counter.{Counter}
 use Rattle.packet.specs.Reading.{Reading}
-use Rattle.packet.specs.Answer.{Answer}
+use Rattle.packet.specs.Writing.{Writing}
+use Rattle.packet.specs.Answer.{Answer, Gives}
+use Rattle.packet.specs.Said.{read_said, write_said}
+use Rattle.packet.specs.declared.Refusal.{Refusal}
+use Rattle.packet.specs.declared.Rows.{Rows}
+use Rattle.packet.specs.declared.Written.{Written}
 use Rattle.packet.proofs.AnswerLaws.{one-result}
+use Rattle.packet.proofs.SaidLaws.{read_only, write_only, check_only, kind_only}
 use Rattle.packet.proofs.Counter.fresh.Reads as Fresh
+use Rattle.packet.proofs.Refusal.whole.Reads as Whole
 use Rattle.packet.proofs.gap8.Reads as GapOne
 use Rattle.packet.proofs.gap16.Reads as GapTwo
 use Rattle.packet.proofs.kind.Reads as Kind
 use Rattle.packet.proofs.part_check.Reads as Check
 use Rattle.packet.proofs.part.Reads as Part
-use Rattle.lent.specs.declared.Told.{Told}
-use Rattle.lent.specs.Told.{Tells}
-use Rattle.lent.proofs.ToldLaws.{one_telling}
+use Rattle.lent.specs.Told.{Told, Tells, told_said}
+use Rattle.lent.proofs.ToldLaws.{one_telling, told_only}
+use Rattle.lent.proofs.advance.Reads as Advance
 use Rattle.lengths.proofs.crowded.Reads as Crowded
 use Rattle.plan.proofs.joined.Reads as Joined
-use Rattle.plan.proofs.most.Reads as Most
-use Rattle.plan.proofs.rests.Reads as Rests
+use Rattle.plan.proofs.Plan.most.Reads as Most
+use Rattle.plan.proofs.Plan.rests.Reads as Rests
 use Rattle.usb.proofs.shape.Reads as UsbShape
 use Rattle.usb_plan.proofs.plan_for.Reads as UsbPlanFor
 use Rattle.usb_reader.proofs.read.Reads as UsbRead
 use Rattle.usb_writer.proofs.write.Reads as UsbWrite
+use Rattle.words.proofs.same.Reads as SameWord
+use Rattle.keywords.proofs.says.Reads as Says
+use Rattle.passing.proofs.Names.new.Reads as NoNames
+use Rattle.description.proofs.DescribedLaws.{described_only}
+use Rattle.description.proofs.Endpoint.setting.Reads as EndpointSetting
 use Rattle.settings.proofs.settings.Reads as Settings
 use Rattle.flexray.proofs.listed.Reads as FlexRayListed
 use Rattle.flexray_plan.proofs.further.Reads as FlexRayFurther
@@ -81,27 +94,44 @@ same r u e f g h = g ∙ sym h
 
 ---- Readers and writers --------------------------------------------------------------------------------------------------------
 
+-- what is said of one answer is said by one result
+read_once : {a : Answer Reading} {r u : Result Rows Refusal} {left past : List ℕ} → Gives a (read_said r) left → Gives a (read_said u) past
+    → (r ≡ u) × (left ≡ past)
+read_once g h = let (answer, rows) = one-result g h in (read_only answer, rows)
+
+write_once : {a : Answer Writing} {r u : Result Written Refusal} {left past : List ℕ} → Gives a (write_said r) left → Gives a (write_said u) past
+    → (r ≡ u) × (left ≡ past)
+write_once g h = let (answer, out) = one-result g h in (write_only answer, out)
+
 -- the answer, and the table or the output
 pub usb : (UsbRead.Post allows-one-and λ x e. e.1.1.1.0.now) × (UsbWrite.Post allows-one-and λ x e. e.1.1.1.1.1.1.0.now)
-usb = (λ x a r u e f. one-result, λ x a r u e f. one-result)
+usb = (λ x a r u e f. read_once, λ x a r u e f. write_once)
 
 pub flexray : (FlexRayRead.Post allows-one-and λ x e. e.1.1.1.0.now) × (FlexRayWrite.Post allows-one-and λ x e. e.1.1.1.1.1.0.now)
-flexray = (λ x a r u e f. one-result, λ x a r u e f. one-result)
+flexray = (λ x a r u e f. read_once, λ x a r u e f. write_once)
 
 pub udp : (UdpRead.Post allows-one-and λ x e. e.1.1.1.0.now) × (UdpWrite.Post allows-one-and λ x e. e.1.1.1.1.0.now)
-udp = (λ x a r u e f. one-result, λ x a r u e f. one-result)
+udp = (λ x a r u e f. read_once, λ x a r u e f. write_once)
 
 -- with the state lent, by what the clauses of each read_lent come to (Tied `usb-lent`, `flexray-lent`, `udp-lent`): what is told, the state and the table
 pub read_lent : {a : Answer Reading} {c : Counter} (r u : Told) (d e : Counter) (left past : List ℕ) → Tells a c r d left → Tells a c u e past
     → (r ≡ u) × (d ≡ e) × (left ≡ past)
 read_lent r u d e left past = one_telling
 
+-- .. so it is one result that each of them gives, as `advance` gives it
+pub lent : {a : Answer Reading} {c : Counter} {r u : Result ℕ Refusal} {d e : Counter} {left past : List ℕ} → Tells a c (told_said r) d left
+    → Tells a c (told_said u) e past → (r ≡ u) × (d ≡ e) × (left ≡ past)
+lent g h = let (told, state, rows) = one_telling g h in (told_only told, state, rows)
+
+pub advance : (x : _) (a : _) (r u : _) (e f : _) → Advance.Post x a r e → Advance.Post x a u f → (r ≡ u) × (e.1.0.now ≡ f.1.0.now)
+advance x a r u e f g h = (told_only (g.told ∙ sym h.told), g.state ∙ sym h.state)
+
 -- and of lending's functions: what was told with the state that is given back, and the table
 one_lent : {a : Answer Reading} {c : Counter} {r u : Lent} {left past : List ℕ} → Lends a c r left → Lends a c u past → (r ≡ u) × (left ≡ past)
 one_lent {r = r} {u = u} g h =
-    let (told, state, rows) = one_telling g h in
-    let lent : Told → Counter → Lent = λ x d. record { told = x; state = d } in
-    (ap (λ x. lent x r.state) told ∙ ap (lent u.told) state, rows)
+    let (told, state, rows) = lent g h in
+    let held : Result ℕ Refusal → Counter → Lent = λ x d. record { told = x; state = d } in
+    (ap (λ x. held x r.state) told ∙ ap (held u.told) state, rows)
 
 pub lending : (LendUsb.Post allows-one-and λ x e. e.1.1.1.0.now) × (LendFlexRay.Post allows-one-and λ x e. e.1.1.1.0.now)
     × (LendUdp.Post allows-one-and λ x e. e.1.1.1.0.now)
@@ -134,17 +164,33 @@ argument x a = same
 
 -- from the description file; what a header number comes to
 pub settings : (Settings.Post allows-one) × (UsbShape.Post allows-one) × (FlexRayListed.Post allows-one)
-settings = (λ x a. same, λ x a. same, λ x a. same)
+settings = (λ x a r u e f g h. described_only (g ∙ sym h), λ x a. same, λ x a. same)
 
 -- a plan of numbers, its most bytes, and the layouts that have rests; the plan of a setting, or that it is not sound
 pub plans : (Joined.Post allows-one) × (Most.Post allows-one) × (Rests.Post allows-one) × (UsbPlanFor.Post allows-one)
     × (FlexRayFurther.Post allows-one) × (FlexRayPlanFor.Post allows-one) × (UdpSound.Post allows-one) × (UdpPlanOf.Post allows-one)
 plans = (λ x a. same, λ x a. same, λ x a. same, λ x a. same, λ x a. same, λ x a. same, λ x a. same, λ x a. same)
 
+---- The text of a description --------------------------------------------------------------------------------------------------
+
+-- whether two words are the same, what a word says, no names, and an endpoint's setting
+pub text : (SameWord.Post allows-one) × (Says.Post allows-one) × (EndpointSetting.Post allows-one)
+text = (λ x a. same, λ x a. same, λ x a. same)
+
+pub no_names : NoNames.Post allows-one
+no_names x a r u e f g h = cc
+
 ---- Packets --------------------------------------------------------------------------------------------------------------------
 
 pub packet : (Fresh.Post allows-one) × (GapOne.Post allows-one) × (GapTwo.Post allows-one) × (Kind.Post allows-one) × (Check.Post allows-one)
-packet = (λ x a. same, λ x a. same, λ x a. same, λ x a. same, λ x a. same)
+    × (Whole.Post allows-one)
+packet =
+    ( λ x a. same,
+      λ x a. same,
+      λ x a. same,
+      λ x a r u e f g h. kind_only (g ∙ sym h),
+      λ x a r u e f g h. check_only (g ∙ sym h),
+      λ x a. same )
 
 -- the bytes that the part shows
 pub part : (x : _) (a : _) (r u : _) (e f : _) → Part.Post x a r e → Part.Post x a u f → r.now ≡ u.now

@@ -1,6 +1,6 @@
 -- The promises are about the functions' own contracts. A module `Reads` is what Rattle makes of the clauses that stand in a function's code: `Asked` is its
 -- `requires`, and `Post` its `ensures`, of the lifetimes x, the parameters a, the answer r, and the parameters as the call leaves them, e. Parameters are
--- `a.0`, `a.1.0`, `a.1.1.0` and so on. Each line shows that nothing is asked, and that the code ensures what the promises speak of: a clause that
+-- `a.0`, `a.1.0`, `a.1.1.0` and so on; what code says of an answer is told in the definitions' words (`read_said` and the like). Each line shows that nothing is asked, and that the code ensures what the promises speak of: a clause that
 -- asks for something, or says less, is refused here.
 use mathlib.Core.Path.{◌≡◌, refl}
 use mathlib.Core.Bool.{not}
@@ -8,16 +8,18 @@ use lib.Dec.{eqb}
 use Rattle.packet.specs.Counter.{fresh}
 use Rattle.packet.specs.Kind.{kind_of}
 use Rattle.packet.specs.Part.{part_of, check_of}
+use Rattle.packet.specs.Said.{kind_said, read_said, write_said, check_said}
 use Rattle.packet.proofs.Counter.fresh.Reads as Fresh
 use Rattle.packet.proofs.kind.Reads as Kind
 use Rattle.packet.proofs.part_check.Reads as Check
 use Rattle.packet.proofs.part.Reads as Part
-use Rattle.lent.specs.Told.{Tells}
+use Rattle.lent.specs.Told.{Tells, told_said}
 use Rattle.usb.specs.Reading.{read_of as usb_read_of}
 use Rattle.usb.specs.Writing.{write_of as usb_write_of}
 use Rattle.usb_reader.proofs.read.Reads as UsbRead
 use Rattle.usb_reader.proofs.read_lent.Reads as UsbLent
 use Rattle.usb_writer.proofs.write.Reads as UsbWrite
+use Rattle.description.specs.Described.{described_said}
 use Rattle.settings.proofs.settings.Reads as Settings
 use Rattle.flexray.specs.Reading.{read_of as flexray_read_of}
 use Rattle.flexray.specs.Writing.{write_of as flexray_write_of}
@@ -61,45 +63,45 @@ use Rattle.promises.proofs.Udp as Udp
 
 -- usb_reader::read
 pub usb_read : (x : _) (a : _) (r : _) (e : _) → UsbRead.Asked x a
-    × (UsbRead.Post x a r e → Usb.Reads a.0 a.1.0.now a.1.1.0 a.1.1.1.0.now r e.1.1.1.0.now)
+    × (UsbRead.Post x a r e → Usb.Reads a.0 a.1.0.now a.1.1.0 a.1.1.1.0.now (read_said r) e.1.1.1.0.now)
 usb_read x a r e = (tt, λ p. p)
 
 -- usb_writer::write
 pub usb_write : (x : _) (a : _) (r : _) (e : _) → UsbWrite.Asked x a
     × (UsbWrite.Post x a r e → Usb.Writes a.0 a.1.0.now a.1.1.0.now a.1.1.1.0 a.1.1.1.1.0 a.1.1.1.1.1.0
-    a.1.1.1.1.1.1.0.now r e.1.1.1.1.1.1.0.now)
+    a.1.1.1.1.1.1.0.now (write_said r) e.1.1.1.1.1.1.0.now)
 usb_write x a r e = (tt, λ p. p)
 
 ---- FlexRay --------------------------------------------------------------------------------------------------------------------
 
 -- flexray_reader::read
 pub flexray_read : (x : _) (a : _) (r : _) (e : _) → FlexRayRead.Asked x a
-    × (FlexRayRead.Post x a r e → Flexray.Reads a.0 a.1.0.now a.1.1.0 a.1.1.1.0.now r e.1.1.1.0.now)
+    × (FlexRayRead.Post x a r e → Flexray.Reads a.0 a.1.0.now a.1.1.0 a.1.1.1.0.now (read_said r) e.1.1.1.0.now)
 flexray_read x a r e = (tt, λ p. p)
 
 -- flexray_writer::write
 pub flexray_write : (x : _) (a : _) (r : _) (e : _) → FlexRayWrite.Asked x a
     × (FlexRayWrite.Post x a r e → Flexray.Writes a.0 a.1.0.now a.1.1.0.now a.1.1.1.0 a.1.1.1.1.0
-    a.1.1.1.1.1.0.now r e.1.1.1.1.1.0.now)
+    a.1.1.1.1.1.0.now (write_said r) e.1.1.1.1.1.0.now)
 flexray_write x a r e = (tt, λ p. p)
 
 ---- UDP ------------------------------------------------------------------------------------------------------------------------
 
 -- udp_reader::read
 pub udp_read : (x : _) (a : _) (r : _) (e : _) → UdpRead.Asked x a
-    × (UdpRead.Post x a r e → Udp.Reads a.0 a.1.0.now a.1.1.0 a.1.1.1.0.now r e.1.1.1.0.now)
+    × (UdpRead.Post x a r e → Udp.Reads a.0 a.1.0.now a.1.1.0 a.1.1.1.0.now (read_said r) e.1.1.1.0.now)
 udp_read x a r e = (tt, λ p. p)
 
 -- udp_writer::write
 pub udp_write : (x : _) (a : _) (r : _) (e : _) → UdpWrite.Asked x a
     × (UdpWrite.Post x a r e → Udp.Writes a.0 a.1.0.now a.1.1.0.now a.1.1.1.0 a.1.1.1.1.0.now
-    r e.1.1.1.1.0.now)
+    (write_said r) e.1.1.1.1.0.now)
 udp_write x a r e = (tt, λ p. p)
 
 ---- The description file -------------------------------------------------------------------------------------------------------
 
 -- settings::settings
-pub settings : (x : _) (a : _) (r : _) (e : _) → Settings.Asked x a × (Settings.Post x a r e → Description.Reads a.0.now a.1.0 r)
+pub settings : (x : _) (a : _) (r : _) (e : _) → Settings.Asked x a × (Settings.Post x a r e → Description.Reads a.0.now a.1.0 (described_said r))
 settings x a r e = (tt, λ p. p)
 
 ---- The state lent -------------------------------------------------------------------------------------------------------------
@@ -108,33 +110,33 @@ settings x a r e = (tt, λ p. p)
 
 -- usb_reader::read_lent
 pub usb_lent : (x : _) (a : _) (r : _) (e : _) → UsbLent.Asked x a
-    × (UsbLent.Post x a r e ≡ Tells (usb_read_of a.0 a.1.0.now a.1.1.0.now a.1.1.1.0.now) a.1.1.0.now r e.1.1.0.now e.1.1.1.0.now)
+    × (UsbLent.Post x a r e ≡ Tells (usb_read_of a.0 a.1.0.now a.1.1.0.now a.1.1.1.0.now) a.1.1.0.now (told_said r) e.1.1.0.now e.1.1.1.0.now)
 usb_lent x a r e = (tt, refl)
 
 -- flexray_reader::read_lent
 pub flexray_lent : (x : _) (a : _) (r : _) (e : _) → FlexRayLent.Asked x a
-    × (FlexRayLent.Post x a r e ≡ Tells (flexray_read_of a.0 a.1.0.now a.1.1.0.now a.1.1.1.0.now) a.1.1.0.now r e.1.1.0.now e.1.1.1.0.now)
+    × (FlexRayLent.Post x a r e ≡ Tells (flexray_read_of a.0 a.1.0.now a.1.1.0.now a.1.1.1.0.now) a.1.1.0.now (told_said r) e.1.1.0.now e.1.1.1.0.now)
 flexray_lent x a r e = (tt, refl)
 
 -- udp_reader::read_lent
 pub udp_lent : (x : _) (a : _) (r : _) (e : _) → UdpLent.Asked x a
-    × (UdpLent.Post x a r e ≡ Tells (udp_read_of a.0 a.1.0.now a.1.1.0.now a.1.1.1.0.now) a.1.1.0.now r e.1.1.0.now e.1.1.1.0.now)
+    × (UdpLent.Post x a r e ≡ Tells (udp_read_of a.0 a.1.0.now a.1.1.0.now a.1.1.1.0.now) a.1.1.0.now (told_said r) e.1.1.0.now e.1.1.1.0.now)
 udp_lent x a r e = (tt, refl)
 
 -- lending's functions, which lend a state that they hold
 pub lending_usb : (x : _) (a : _) (r : _) (e : _) → LendUsb.Asked x a
     × (LendUsb.Post x a r e → Tells (usb_read_of a.0 a.1.0.now a.1.1.0 a.1.1.1.0.now) a.1.1.0
-    r.told r.state e.1.1.1.0.now)
+    (told_said r.told) r.state e.1.1.1.0.now)
 lending_usb x a r e = (tt, λ p. p)
 
 pub lending_flexray : (x : _) (a : _) (r : _) (e : _) → LendFlexRay.Asked x a
     × (LendFlexRay.Post x a r e → Tells (flexray_read_of a.0 a.1.0.now a.1.1.0 a.1.1.1.0.now) a.1.1.0
-    r.told r.state e.1.1.1.0.now)
+    (told_said r.told) r.state e.1.1.1.0.now)
 lending_flexray x a r e = (tt, λ p. p)
 
 pub lending_udp : (x : _) (a : _) (r : _) (e : _) → LendUdp.Asked x a
     × (LendUdp.Post x a r e → Tells (udp_read_of a.0 a.1.0.now a.1.1.0 a.1.1.1.0.now) a.1.1.0
-    r.told r.state e.1.1.1.0.now)
+    (told_said r.told) r.state e.1.1.1.0.now)
 lending_udp x a r e = (tt, λ p. p)
 
 ---- Packets --------------------------------------------------------------------------------------------------------------------
@@ -144,11 +146,11 @@ pub counter-fresh : (x : _) (a : _) (r : _) (e : _) → Fresh.Asked x a × (Fres
 counter-fresh x a r e = (tt, λ p. p)
 
 -- packet::kind
-pub kind : (x : _) (a : _) (r : _) (e : _) → Kind.Asked x a × (Kind.Post x a r e → r ≡ kind_of a.0 a.1.0.now)
+pub kind : (x : _) (a : _) (r : _) (e : _) → Kind.Asked x a × (Kind.Post x a r e → kind_said r ≡ kind_of a.0 a.1.0.now)
 kind x a r e = (tt, λ p. p)
 
 -- packet::part_check
-pub check : (x : _) (a : _) (r : _) (e : _) → Check.Asked x a × (Check.Post x a r e → r ≡ check_of a.0.now a.1.0 a.1.1.0)
+pub check : (x : _) (a : _) (r : _) (e : _) → Check.Asked x a × (Check.Post x a r e → check_said r ≡ check_of a.0.now a.1.0 a.1.1.0)
 check x a r e = (tt, λ p. p)
 
 -- packet::part
