@@ -81,8 +81,8 @@ module _ {p : Plan} (k : Ready p) (t : List ℕ) where
 ---- The answer -----------------------------------------------------------------------------------------------------------------
 
 -- it is as long as a frame is to be, and was walked
-pub fillable : {p : Plan} {t : List ℕ} {c : Counter} {k n : ℕ} → Ready p → true ≡ valid p.ctrwidth c → JudgedAs 0 (judged (setting p) t) most_ceiling (Rows k)
-    → 5 * k ≤ n → Fillable p t c k n
+pub fillable : {p : Plan} {t : List ℕ} {c : Counter} {k n : ℕ} → Ready p → true ≡ valid p.ctrwidth c
+    → JudgedAs 0 (judged (setting p) t) most_ceiling (Rows k) → 5 * k ≤ n → Fillable p t c k n
 fillable {p} {t} {k = k} y v j l =
     let (ms, u, d) = counted-list 0 k (judged (setting p) t) j.is in
     let z = (read_sound (setting p) t ms u).sized in
@@ -129,8 +129,8 @@ module _ (s : Setting) (t : List ℕ) (c : Counter) (rows : List ℕ) where
       pub crowded : {k : ℕ} → JudgedAs 0 (judged (setting p) t) most_ceiling (Rows k) → length rows < 5 * k → Refuses 4 0
       crowded j l = held (is_crowded _ _ _ j l (record { answer = refl; lent = refl }))
 
-pub rows-given : (s : Setting) (t : List ℕ) (c : Counter) (rows : List ℕ) {p : Plan} → Some p ≡ planned_of s → true ≡ valid p.ctrwidth c → {k : ℕ}
-    → JudgedAs 0 (judged (setting p) t) most_ceiling (Rows k) → 5 * k ≤ length rows → {new : List ℕ} {d : Counter}
+pub rows-given : (s : Setting) (t : List ℕ) (c : Counter) (rows : List ℕ) {p : Plan} → Some p ≡ planned_of s
+    → true ≡ valid p.ctrwidth c → {k : ℕ} → JudgedAs 0 (judged (setting p) t) most_ceiling (Rows k) → 5 * k ≤ length rows → {new : List ℕ} {d : Counter}
     → filled new d ≡ framing p t c rows → Gives (read_of s t c rows) (R.Rows k d) new
 rows-given s t c rows i v j l f = held s t c rows i v (is-given _ _ _ j l f)
 

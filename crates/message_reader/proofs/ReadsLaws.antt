@@ -2,12 +2,12 @@
 use Prim.Native.Nat.{ℕ, ◌+◌, ◌*◌, ◌<◌, ◌≤◌}
 use native.Mathlib.Omega.{arith}
 use mathlib.Core.Path.{◌≡◌, refl, sym, ◌∙◌}
-use mathlib.Core.Bool.{Bool, true, false}
+use mathlib.Core.Bool.{cond, Bool, true, false}
 use mathlib.Core.List.{List}
 use lib.ListN.{length}
 use lib.Dec.{eqb}
 use borrow.Author.Rules.{rules}
-use borrow.Author.Tests.{ltb-true, ltb-false, lt-ltb, le-ltb, eq-eqb}
+use borrow.Author.Tests.{eqb-false, ltb-true, ltb-false, lt-ltb, le-ltb, eq-eqb}
 use Rattle.packet.specs.declared.Counter.{Counter}
 use Rattle.packet.specs.Reading.{Reading, Reading as R}
 use Rattle.packet.specs.Answer.{Gives, bounded}
@@ -54,21 +54,39 @@ module _ {p : Plan} {d : Bool} (k : Kind d p) where
     packets = let g = ltb-false 2 p.layout (sym k.is ∙ e) in omega arith
 
     module _ {l : ℕ} (i : l ≡ p.lenwidth) where
-      pub packed : Packed l p.ctrwidth p.size p
-      packed = let g = packets in record { layout = g; case = search rules }
+      pub packed : Packed l p.ctrwidth p
+      packed =
+          let m = k.messages in
+          let g = packets in
+          record { layout = g; lenwidth-is = i; ctrwidth-is = refl; small = omega arith; full = λ h. omega arith }
 
-      pub packed-bare : p.ctrwidth ≡ 0 → Packed l 0 p.size p
-      packed-bare z = let g = packets in record { layout = g; case = search rules }
+      pub packed-bare : p.ctrwidth ≡ 0 → Packed l 0 p
+      packed-bare z =
+          let m = k.messages in
+          let g = packets in
+          record { layout = g; lenwidth-is = i; ctrwidth-is = sym z; small = omega arith; full = λ h. absurd (omega arith) }
 
-      -- with LEN and CTR a header is full
-      pub packed-full : (p.ctrwidth ≡ 0 → ⊥) → Packed l l (l + l) p
-      packed-full z = let m = k.messages in let g = packets in record { layout = g; case = search rules }
+      pub packed-full : (p.ctrwidth ≡ 0 → ⊥) → Packed l l p
+      packed-full z =
+          let m = k.messages in
+          let g = packets in
+          record { layout = g; lenwidth-is = i; ctrwidth-is = omega arith; small = omega arith; full = λ h. omega arith }
 
-pub in-layout : {l lenwidth ctrwidth size : ℕ} {p : Plan} → Packed lenwidth ctrwidth size p → l ≡ p.layout
-    → Cased l lenwidth ctrwidth size p.align p
-in-layout k e = let c = k.case in search rules
+module _ {l lenwidth ctrwidth : ℕ} {p : Plan} (k : Packed lenwidth ctrwidth p) (e : l ≡ p.layout) where
+  pub in-layout : Cased l lenwidth ctrwidth p.size p.align p
+  in-layout = record { layout_is = e; lenwidth-is = k.lenwidth-is; ctrwidth-is = k.ctrwidth-is; size_is = refl; align_is = refl }
 
-pub ruleset cases = (in_datagram, packed, packed-bare, packed-full, in-layout)
+  pub in-full : {size : ℕ} → size ≡ cond (eqb ctrwidth 0) p.size (lenwidth + ctrwidth) → Cased l lenwidth ctrwidth size p.align p
+  in-full f =
+      record {
+        layout_is = e;
+        lenwidth-is = k.lenwidth-is;
+        ctrwidth-is = k.ctrwidth-is;
+        size_is = f ∙ by_test (eqb ctrwidth 0) (λ g. rw g) (λ g. rw g (k.full (let z = eqb-false _ _ g in omega arith)));
+        align_is = refl;
+      }
+
+pub ruleset cases = (in_datagram, packed, packed-bare, packed-full, in-layout, in-full)
 
 ---- What is read ---------------------------------------------------------------------------------------------------------------
 

@@ -1,5 +1,5 @@
 -- What is answered by a plan, where each packet has a header of its own; and what the functions above the loops ask.
-use Rattle.std.specs.Prelude.{ℕ, ◌<◌, ◌≡◌, Bool, true, List, length, ltb}
+use Rattle.std.specs.Prelude.{ℕ, ◌+◌, ◌<◌, ◌≤◌, ◌≡◌, Bool, true, List, length, ltb}
 use Rattle.packet.specs.declared.At.{At}
 use Rattle.packet.specs.declared.Counter.{Counter}
 use Rattle.packet.specs.Reading.{Reading}
@@ -7,7 +7,7 @@ use Rattle.packet.specs.Answer.{Answer, bounded, answered}
 use Rattle.packet.specs.Counter.{valid}
 use Rattle.packet.specs.Row.{table, behind}
 use Rattle.plan.specs.declared.Plan.{Plan}
-use Rattle.plan.specs.Plan.{most_of, Cased, Messages}
+use Rattle.plan.specs.Plan.{most_of, Messages}
 use Rattle.reading.specs.Loops.{Counted, Fillable}
 use Rattle.reading.specs.Reads.{reads}
 
@@ -29,10 +29,13 @@ pub record Roomy (datagram : Bool) (p : Plan) (t : List ℕ) (c : Counter) (k n 
   pub kind : Kind datagram p
   pub start : Fillable p t (first p) c 0 k n
 
--- the field widths and the header's size of a plan of data packets are those that a function is told
-pub record Packed (lenwidth ctrwidth size : ℕ) (p : Plan) : Type 0 where
+-- the field widths of a plan of data packets are those that a function is told. With LEN and CTR the header is full
+pub record Packed (lenwidth ctrwidth : ℕ) (p : Plan) : Type 0 where
   pub layout : p.layout < 3
-  pub case : Cased p.layout lenwidth ctrwidth size p.align p
+  pub lenwidth-is : lenwidth ≡ p.lenwidth
+  pub ctrwidth-is : ctrwidth ≡ p.ctrwidth
+  pub small : lenwidth + ctrwidth ≤ 4
+  pub full : 0 < ctrwidth → lenwidth + ctrwidth ≡ p.size
 
 -- the answer by a plan: 1 for the state, 2 for the length, what is read, 4
 unfoldable pub answer_by : Plan → List ℕ → Counter → List ℕ → Answer Reading

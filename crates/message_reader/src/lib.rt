@@ -11,6 +11,7 @@ ghost use Rattle.rows.specs.Fill.{Filled.filled, filling};
 ghost use Rattle.reading.specs.Loops.{Counted, Fillable};
 ghost use Rattle.message_reader.specs.Reads.{first, answer_by, Kind, Packed, Begun, Roomy};
 
+use layout::pick;
 use packet::{At, Counter, Reason, Refusal, Rows};
 use plan::{DATAGRAM, MULTIPLE, Plan, SINGLE, STREAMING};
 use reading::{fill_loop, judge_loop};
@@ -19,7 +20,7 @@ use rows::{few, valid};
 // Judges an input of data packets. Each call says its layout.
 #[tactic(auto, using(crate::proofs::ReadsLaws::cases))]
 fn judge_packets<const LENWIDTH: usize>(p: Plan, t: &[u8], a: At) -> Result<usize, Refusal>
-    requires packed { Packed LENWIDTH p.ctrwidth p.size p }
+    requires packed { Packed LENWIDTH p.ctrwidth p }
     requires counted { Counted p t.now a 0 }
     ensures { JudgedAs 0 (reads p t.now a) (length t.now) (judged_said result) }
 {
@@ -49,10 +50,9 @@ fn judge<const IS_DATAGRAM: bool>(p: Plan, t: &[u8]) -> Result<usize, Refusal>
     }
 }
 
-// Gives the k rows of an input of data packets. Each call says its layout.
+// Gives the k rows of an input of data packets. Each call says its layout. With LEN and CTR the header is full, so that the compiler knows its size.
 #[tactic(auto, using(crate::proofs::ReadsLaws::cases))]
 fn fill_packets<const LENWIDTH: usize, const CTRWIDTH: usize>(
-    size: usize,
     p: Plan,
     t: &[u8],
     a: At,
@@ -60,10 +60,11 @@ fn fill_packets<const LENWIDTH: usize, const CTRWIDTH: usize>(
     rows: &mut [u32],
     k: usize,
 ) -> Counter
-    requires packed { Packed LENWIDTH CTRWIDTH size p }
+    requires packed { Packed LENWIDTH CTRWIDTH p }
     requires fillable { Fillable p t.now a c 0 k (length rows.old) }
     ensures { filled rows.new result ≡ filling p.direction p.ctrwidth rows.old 0 c (reads p t.now a) }
 {
+    let size = pick(CTRWIDTH == 0, p.size, LENWIDTH + CTRWIDTH);
     match p.layout {
         SINGLE => fill_loop::<SINGLE, LENWIDTH, CTRWIDTH>(size, p.align, p, t, a, c, rows, 0, k),
         MULTIPLE => fill_loop::<MULTIPLE, LENWIDTH, CTRWIDTH>(
@@ -73,7 +74,7 @@ fn fill_packets<const LENWIDTH: usize, const CTRWIDTH: usize>(
     }
 }
 
-// Gives the k rows of an input. Each call says the bytes of LEN and of CTR. With both fields the header is full.
+// Gives the k rows of an input. Each call says the bytes of LEN and of CTR.
 #[tactic(auto, using(crate::proofs::ReadsLaws::cases))]
 fn fill<const IS_DATAGRAM: bool>(
     p: Plan,
@@ -95,12 +96,12 @@ fn fill<const IS_DATAGRAM: bool>(
     }
     match p.lenwidth {
         1 => match p.ctrwidth {
-            0 => fill_packets::<1, 0>(p.size, p, t, a, c, rows, k),
-            _ => fill_packets::<1, 1>(2, p, t, a, c, rows, k),
+            0 => fill_packets::<1, 0>(p, t, a, c, rows, k),
+            _ => fill_packets::<1, 1>(p, t, a, c, rows, k),
         },
         _ => match p.ctrwidth {
-            0 => fill_packets::<2, 0>(p.size, p, t, a, c, rows, k),
-            _ => fill_packets::<2, 2>(4, p, t, a, c, rows, k),
+            0 => fill_packets::<2, 0>(p, t, a, c, rows, k),
+            _ => fill_packets::<2, 2>(p, t, a, c, rows, k),
         },
     }
 }
