@@ -7,7 +7,7 @@ use mathlib.Core.List.{List, [], ◌∷◌, ◌++◌, append-nil, map}
 use lib.ListN.{length, length-map, get_or, take, drop, replicate}
 use borrow.Author.Tests.{eq-eqb, ne_eqb}
 use Rattle.layout.proofs.TestLaws.{why_passed, why_failed, passed, failed}
-use Rattle.packet.specs.declared.Writing.TheVariants as W
+use Rattle.packet.specs.Writing.{Writing as W}
 use Rattle.packet.specs.Message.{Msg}
 use Rattle.packet.specs.Counter.{holds, later}
 use Rattle.packet.specs.Limit.{most_bytes}

@@ -6,7 +6,7 @@ use Rattle.packet.specs.Message.{Msg}
 use Rattle.packet.specs.Counter.{holds, later}
 use Rattle.packet.specs.Limit.{most_bytes}
 use Rattle.packet.specs.Packets.{packets, mismatched, first}
-use Rattle.packet.specs.declared.Writing.{Writing}
+use Rattle.packet.specs.Writing.{Writing}
 use Rattle.packet.specs.Answer.{Answer, weighed, stored}
 use Rattle.flexray.specs.declared.Setting.{Setting}
 use Rattle.flexray.specs.Setting.{fields, H, L, W, start, moved, sound}

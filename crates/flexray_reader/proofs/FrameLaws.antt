@@ -13,7 +13,7 @@ use Rattle.layout.proofs.WalkLaws.{walk_eq}
 use Rattle.packet.specs.declared.At.{At}
 use Rattle.packet.specs.declared.Counter.{Counter}
 use Rattle.packet.specs.declared.Found.{Found}
-use Rattle.packet.specs.declared.Seen.TheVariants as S
+use Rattle.packet.specs.Seen.{Seen as S}
 use Rattle.packet.specs.Counter.{advance}
 use Rattle.packet.specs.Message.{Msg}
 use Rattle.packet.specs.Row.{row, numbers}
@@ -25,8 +25,8 @@ use Rattle.reading.specs.Loops.{Standing}
 use Rattle.reading.specs.Reads.{reads}
 use Rattle.reading.proofs.LoopLaws.{counted-list}
 use Rattle.reading.proofs.WalkLaws.{ahead-reads}
-use Rattle.rows.specs.declared.Judged.{Judged}
-use Rattle.rows.specs.declared.Judged.TheVariants.{Rows, Refused}
+use Rattle.rows.specs.Count.{Judged}
+use Rattle.rows.specs.Count.{Judged.Rows, Judged.Refused}
 use Rattle.rows.specs.Count.{counted, JudgedAs}
 use Rattle.rows.specs.Counters.{Sane}
 use Rattle.rows.specs.Fill.{Filled.filled, fill_of, filling}

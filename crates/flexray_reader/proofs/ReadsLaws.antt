@@ -12,14 +12,14 @@ use Rattle.layout.specs.Field.{says, Name.NAX}
 use Rattle.layout.specs.Leaf.{Number}
 use Rattle.layout.specs.Walk.{Out.refused}
 use Rattle.packet.specs.declared.Counter.{Counter}
-use Rattle.packet.specs.declared.Reading.{Reading}
-use Rattle.packet.specs.declared.Reading.TheVariants as R
+use Rattle.packet.specs.Reading.{Reading}
+use Rattle.packet.specs.Reading.{Reading as R}
 use Rattle.packet.specs.Counter.{valid}
 use Rattle.packet.specs.Answer.{Gives, read_refused}
 use Rattle.packet.specs.Limit.{Short}
 use Rattle.packet.proofs.AnswerLaws.{gives_so}
-use Rattle.rows.specs.declared.Judged.{Judged}
-use Rattle.rows.specs.declared.Judged.TheVariants.{Rows, Refused}
+use Rattle.rows.specs.Count.{Judged}
+use Rattle.rows.specs.Count.{Judged.Rows, Judged.Refused}
 use Rattle.rows.specs.Count.{counted, Small, JudgedAs}
 use Rattle.rows.specs.Fill.{Filled.filled}
 use Rattle.reading.proofs.LoopLaws.{counted-list}

@@ -4,12 +4,12 @@ use Rattle.layout.specs.Field.{says, Name.CTR}
 use Rattle.packet.specs.declared.At.{At}
 use Rattle.packet.specs.declared.Counter.{Counter}
 use Rattle.packet.specs.declared.Found.{Found}
-use Rattle.packet.specs.declared.Reading.{Reading}
+use Rattle.packet.specs.Reading.{Reading}
 use Rattle.packet.specs.Answer.{Answer, answered}
 use Rattle.plan.specs.declared.Plan.{Plan}
 use Rattle.reading.specs.Loops.{Counted}
 use Rattle.reading.specs.Loops.{Fillable as Filling}
-use Rattle.rows.specs.declared.Judged.TheVariants.{Rows}
+use Rattle.rows.specs.Count.{Judged.Rows}
 use Rattle.rows.specs.Count.{counted, JudgedAs}
 use Rattle.rows.specs.Counters.{Sane}
 use Rattle.rows.specs.Fill.{Filled, fill_of}

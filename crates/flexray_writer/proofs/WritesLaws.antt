@@ -13,8 +13,8 @@ use Rattle.layout.proofs.RunLaws.{sets-append}
 use Rattle.layout.proofs.TestLaws.{or_left, or_right}
 use Rattle.lengths.specs.Lengths.{misfit_of}
 use Rattle.lengths.proofs.LengthsLaws as M
-use Rattle.packet.specs.declared.Writing.{Writing}
-use Rattle.packet.specs.declared.Writing.TheVariants as W
+use Rattle.packet.specs.Writing.{Writing}
+use Rattle.packet.specs.Writing.{Writing as W}
 use Rattle.packet.specs.Answer as A
 use Rattle.packet.specs.Answer.{Answer, Gives, write_refused}
 use Rattle.packet.specs.Counter.{holds, later}

@@ -2,7 +2,7 @@
 use Rattle.std.specs.Prelude.{ℕ, List}
 use Rattle.packet.specs.Answer.{Answer}
 use Rattle.packet.specs.declared.Counter.{Counter}
-use Rattle.packet.specs.declared.Reading.{Reading}
+use Rattle.packet.specs.Reading.{Reading}
 use Rattle.lent.specs.Told.{Tells}
 use Rattle.lending.specs.declared.Lent.{Lent}
 

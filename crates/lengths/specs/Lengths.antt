@@ -1,7 +1,7 @@
 -- Lengths, few enough that their sum fits.
 use Rattle.std.specs.Prelude.{ℕ, ◌≤◌, ◌≡◌, cond, List, length}
 use Rattle.packet.specs.Limit.{most_lengths}
-use Rattle.packet.specs.declared.Writing.{Writing}
+use Rattle.packet.specs.Writing.{Writing}
 use Rattle.packet.specs.Answer.{Answer, write_refused}
 use Rattle.packet.specs.Packets.{sum, mismatched}
 

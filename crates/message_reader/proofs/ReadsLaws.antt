@@ -10,8 +10,8 @@ use lib.Dec.{ltb, eqb}
 use borrow.Author.Rules.{rules}
 use borrow.Author.Tests.{ltb-true, ltb-false, lt-ltb, le-ltb, eq-eqb}
 use Rattle.packet.specs.declared.Counter.{Counter}
-use Rattle.packet.specs.declared.Reading.{Reading}
-use Rattle.packet.specs.declared.Reading.TheVariants as R
+use Rattle.packet.specs.Reading.{Reading}
+use Rattle.packet.specs.Reading.{Reading as R}
 use Rattle.packet.specs.Answer.{Gives, bounded, read_refused}
 use Rattle.packet.specs.Counter.{valid}
 use Rattle.packet.specs.Limit.{most_bytes, Short}
@@ -21,8 +21,8 @@ use Rattle.plan.specs.Plan.{most_of, Cased, Messages}
 use Rattle.plan.proofs.CaseLaws.{by_test}
 use Rattle.reading.specs.Loops.{Standing}
 use Rattle.reading.specs.Reads.{reads}
-use Rattle.rows.specs.declared.Judged.{Judged}
-use Rattle.rows.specs.declared.Judged.TheVariants.{Rows, Refused}
+use Rattle.rows.specs.Count.{Judged}
+use Rattle.rows.specs.Count.{Judged.Rows, Judged.Refused}
 use Rattle.rows.specs.Count.{JudgedAs}
 use Rattle.rows.specs.Fill.{Filled.filled, filling}
 use Rattle.rows.proofs.AnswerLaws.{not_judged, is-refused, is_crowded, is-given}

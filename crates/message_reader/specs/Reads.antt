@@ -2,7 +2,7 @@
 use Rattle.std.specs.Prelude.{ℕ, ◌≤◌, ◌≡◌, true, List, length}
 use Rattle.packet.specs.declared.At.{At}
 use Rattle.packet.specs.declared.Counter.{Counter}
-use Rattle.packet.specs.declared.Reading.{Reading}
+use Rattle.packet.specs.Reading.{Reading}
 use Rattle.packet.specs.Answer.{Answer, Gives, bounded, answered, read_refused}
 use Rattle.packet.specs.Counter.{valid}
 use Rattle.packet.specs.Limit.{most_bytes, Short}
@@ -11,8 +11,8 @@ use Rattle.plan.specs.declared.Plan.{Plan}
 use Rattle.plan.specs.Plan.{most_of, Messages}
 use Rattle.reading.specs.Loops.{Counted, Fillable}
 use Rattle.reading.specs.Reads.{reads}
-use Rattle.rows.specs.declared.Judged.{Judged}
-use Rattle.rows.specs.declared.Judged.TheVariants.{Rows, Refused}
+use Rattle.rows.specs.Count.{Judged}
+use Rattle.rows.specs.Count.{Judged.Rows, Judged.Refused}
 use Rattle.rows.specs.Count.{JudgedAs}
 use Rattle.rows.specs.Counters.{Sane}
 

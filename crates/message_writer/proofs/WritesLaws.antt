@@ -14,7 +14,7 @@ use Rattle.layout.proofs.TestLaws.{and_right}
 use Rattle.lengths.specs.Lengths.{misfit_of}
 use Rattle.lengths.proofs.LengthsLaws as M
 use Rattle.packet.specs.declared.At.{At}
-use Rattle.packet.specs.declared.Writing.TheVariants as W
+use Rattle.packet.specs.Writing.{Writing as W}
 use Rattle.packet.specs.Answer as A
 use Rattle.packet.specs.Answer.{Gives, write_refused}
 use Rattle.packet.specs.Counter.{holds, later}

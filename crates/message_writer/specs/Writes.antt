@@ -2,7 +2,7 @@
 use Rattle.std.specs.Prelude.{ℕ, ◌-◌, ◌<◌, ◌≤◌, ◌≡◌, Bool, true, cond, ◌&&◌, List, ◌++◌, length, ltb}
 use Rattle.std.proofs.lemmas.List.Edits.{sets}
 use Rattle.packet.specs.declared.At.{At}
-use Rattle.packet.specs.declared.Writing.{Writing}
+use Rattle.packet.specs.Writing.{Writing}
 use Rattle.packet.specs.Answer.{Answer, weighed, stored, write_refused}
 use Rattle.packet.specs.Counter.{holds, later}
 use Rattle.packet.specs.Limit.{most_lengths, most_bytes}

@@ -6,6 +6,7 @@ pub mod PartLaws
 pub mod ReadTableLaws
 pub mod ReaderLaws
 pub mod RowLaws
+pub mod SaidLaws
 pub mod SeenLaws
 pub mod TakeLaws
 pub mod WeighLaws

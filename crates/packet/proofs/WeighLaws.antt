@@ -4,7 +4,7 @@ use Rattle.std.proofs.Common.{ltb, List, length, sym, refl, ap, ◌∙◌, arith
 use lib.Seq.{sets}
 use Rattle.layout.specs.Walk.{Out.list, Out.refused}
 use Rattle.layout.proofs.TestLaws.{or_left, or_right}
-use Rattle.packet.specs.declared.Writing.TheVariants as W
+use Rattle.packet.specs.Writing.{Writing as W}
 use Rattle.packet.specs.Answer.{Gives, Ready, write_refused, weighed, NoRoom, NoRoom.small, NoRoom.long}
 use Rattle.packet.proofs.AnswerLaws.{gives}
 use Rattle.packet.proofs.WriterLaws.{Unwritten, Written, unwritten, wrote}

@@ -2,7 +2,7 @@
 -- once for USB and UDP, from what a transport shows of its lengths.
 use Rattle.std.proofs.Common.{◌≡◌, ℕ, Bool, List, length, arith}
 use Rattle.layout.proofs.TestLaws.{Tells, why_passed, why_failed, passed, failed}
-use Rattle.packet.specs.declared.Writing.TheVariants as W
+use Rattle.packet.specs.Writing.{Writing as W}
 use Rattle.packet.specs.Answer.{stored, weighed}
 use Rattle.packet.specs.Counter.{holds, later}
 use Rattle.packet.specs.Packets.{packets, mismatched, first}

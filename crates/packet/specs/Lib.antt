@@ -6,5 +6,8 @@ pub mod Message
 pub mod Packets
 pub mod Part
 pub mod Refusal
+pub mod Reading
 pub mod Row
+pub mod Said
 pub mod Seen
+pub mod Writing

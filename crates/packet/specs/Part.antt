@@ -1,7 +1,10 @@
 -- A part of an input (document 01, 'What reading and writing return'), asked for by place and length.
 use Rattle.std.specs.Prelude.{ℕ, ◌+◌, cond, List, [], length, take, drop, nat_le}
-use Rattle.packet.specs.declared.Checked.{Checked}
-use Rattle.packet.specs.declared.Checked.TheVariants.{Inside, Refused}
+
+-- the part lies inside, or a refusal's number and place
+pub data Checked : Type 0 where
+  Inside : Checked
+  Refused : ℕ → ℕ → Checked
 
 -- the part, or nothing where place plus length exceeds the input's length
 abbrev pub part_of : List ℕ → ℕ → ℕ → List ℕ

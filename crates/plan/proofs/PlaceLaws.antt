@@ -3,8 +3,8 @@ use Prim.Native.Nat.{ℕ, ◌+◌, ◌-◌, ◌*◌, ◌/◌, ◌%◌, ◌<◌, 
 use native.Mathlib.Omega.{arith}
 use native.Mathlib.Nat.{mod-lt, add-mod_right, div-add-mod', add-mul, one-mul, mul-mod_left, lt_of_mul-lt-mul_right}
 use mathlib.Core.Path.{◌≡◌, refl, ap, ◌∙◌}
-use mathlib.Core.Bool.{true, cond, or-true}
-use lib.Dec.{ltb, eqb}
+use mathlib.Core.Bool.{true, or-true}
+use lib.Dec.{eqb}
 use borrow.Author.Tests.{lt-ltb, le-ltb, eq-eqb, eqb-true, eqb-false}
 use Rattle.layout.proofs.MultipleLaws.{pad_less}
 use Rattle.packet.specs.declared.At.{At}
@@ -13,14 +13,6 @@ use Rattle.plan.specs.Place.{rests, header_at, behind_at, streamed_at, packet_af
 use Rattle.plan.proofs.CaseLaws.{by_test, by_less}
 
 -- the end in which a stream's place stands is at most one end on, or is found by a division
-module _ (m end q : ℕ) {next : ℕ} (e : next ≡ cond (ltb q end) end (end + m)) where
-  pub stream-near : q < next → next ≡ streamed_at m end q
-  stream-near l = rw (← e, lt-ltb q next l)
-
-  pub stream-far : next ≤ q → q + (m - q % m) ≡ streamed_at m end q
-  stream-far l = rw (← e, le-ltb q next l)
-
--- .. and so by cases
 streamed_by : (m end q : ℕ) (P : ℕ → Type 0) → (q < end → P end) → (end ≤ q → q < end + m → P (end + m))
     → (end ≤ q → P (q + (m - q % m))) → P (streamed_at m end q)
 streamed_by m end q P here next far =

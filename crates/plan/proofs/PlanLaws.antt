@@ -4,35 +4,19 @@ use native.Mathlib.Omega.{arith}
 use mathlib.Core.Path.{◌≡◌, refl}
 use mathlib.Core.Bool.{Bool, true, false, ◌||◌}
 use mathlib.Core.List.{List}
+use Rattle.std.specs.Prelude.{Some, None}
 use lib.ListN.{get_or}
 use lib.Dec.{leb, eqb}
 use borrow.Author.Tests.{leb-true, eqb-true, ne_eqb}
 use Rattle.layout.proofs.TableLaws.{all, all-given}
 use Rattle.plan.specs.declared.Plan.{Plan}
-use Rattle.plan.specs.declared.Planned.TheVariants as P
-use Rattle.plan.specs.Plan.{planned, Cased}
+use Rattle.plan.specs.Plan.{planned}
 
--- literals that are the plan's own, in their places
-pub cased-is : {layout lenwidth ctrwidth size align : ℕ} {p : Plan} → Cased layout lenwidth ctrwidth size align p
-    → record {
-      layout = layout;
-      header = p.header;
-      align = align;
-      datapacket = p.datapacket;
-      longest = p.longest;
-      direction = p.direction;
-      node = p.node;
-      size = size;
-      lenwidth = lenwidth;
-      ctrwidth = ctrwidth;
-    } ≡ p
-cased-is k = rw (k.layout_is, k.lenwidth-is, k.ctrwidth-is, k.size_is, k.align_is)
-
-pub was_sound : (b : Bool) (whole : Plan) {p : Plan} → P.Sound p ≡ planned b whole → (b ≡ true) × (p ≡ whole)
+pub was_sound : (b : Bool) (whole : Plan) {p : Plan} → Some p ≡ planned b whole → (b ≡ true) × (p ≡ whole)
 was_sound true whole e = (refl, cc)
 was_sound false whole e = let z : ◌≡◌ {A = ℕ} 0 1 = cc in absurd (omega arith)
 
-pub was_unsound : (b : Bool) (whole : Plan) → P.Unsound ≡ planned b whole → b ≡ false
+pub was_unsound : (b : Bool) (whole : Plan) → None ≡ planned b whole → b ≡ false
 was_unsound true whole e = let z : ◌≡◌ {A = ℕ} 0 1 = cc in absurd (omega arith)
 was_unsound false whole e = refl
 

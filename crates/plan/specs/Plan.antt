@@ -1,11 +1,9 @@
 -- A plan of a setting's numbers and of its header's, for every transport.
-use Rattle.std.specs.Prelude.{ℕ, ◌+◌, ◌%◌, ◌<◌, ◌≤◌, ◌≡◌, Bool, cond, eqb}
+use Rattle.std.specs.Prelude.{ℕ, ◌+◌, ◌%◌, ◌<◌, ◌≤◌, ◌≡◌, Bool, cond, eqb, Option, Some, None}
 use Rattle.layout.specs.declared.Shape.{Shape}
 use Rattle.layout.specs.Multiple.{Aligned}
 use Rattle.packet.specs.Limit.{most_bytes}
 use Rattle.plan.specs.declared.Plan.{Plan}
-use Rattle.plan.specs.declared.Planned.{Planned}
-use Rattle.plan.specs.declared.Planned.TheVariants as P
 
 abbrev pub plan_of : (layout header align datapacket longest direction node : ℕ) → Shape → Plan
 plan_of layout header align datapacket longest direction node k =
@@ -23,8 +21,8 @@ plan_of layout header align datapacket longest direction node k =
     }
 
 -- the plan of a setting that is sound, or that it is not
-abbrev pub planned : (sound : Bool) → Plan → Planned
-planned sound p = cond sound (P.Sound p) P.Unsound
+abbrev pub planned : (sound : Bool) → Plan → Option Plan
+planned sound p = cond sound (Some p) None
 
 -- the most bytes of an input or an output, where each packet has a header of its own: a datagram's are those of its one data packet
 abbrev pub most_of : Plan → ℕ

@@ -1,5 +1,4 @@
-// A plan for every transport: a setting's numbers with those of its header, worked out once; and places, by the layout's case. A layout is a
-// number: 0 single, 1 multiple, 2 streaming, 3 frame, 4 datagram. Whoever calls with literals gets a function of its own from the compiler.
+// A plan for every transport: a setting's numbers with those of its header, worked out once; and places, by the layout's case.
 #![tactic(auto)]
 
 ghost use Rattle.std.specs.Prelude.{◌≡◌, ◌+◌, ◌≤◌};
@@ -9,9 +8,20 @@ ghost use Rattle.plan.specs.Plan.{plan_of, most_of, Cased};
 use layout::{Shape, either, pick, rounded};
 use packet::At;
 
+// The layouts. They stay numbers: a loop is told its own by a const parameter, which no enum can be, and USB's packing is a number of the C interface.
+pub const SINGLE: usize = 0;
+
+pub const MULTIPLE: usize = 1;
+
+pub const STREAMING: usize = 2;
+
+pub const FRAME: usize = 3;
+
+pub const DATAGRAM: usize = 4;
+
 // What reading and writing need to know. A frame has no longest packet but what its LEN can say, its data packet is the frame ceiling, and only a
 // frame has a node. A datagram's data packet is the longest datagram: it has no other.
-#[derive(Clone, Copy)]
+#[derive(Clone, Copy, Debug, PartialEq, Eq)]
 pub struct Plan {
     pub layout: usize,
     pub header: u32,
@@ -23,13 +33,6 @@ pub struct Plan {
     pub size: usize,
     pub lenwidth: usize,
     pub ctrwidth: usize,
-}
-
-// The plan of a setting that is sound.
-#[derive(Clone, Copy)]
-pub enum Planned {
-    Sound(Plan),
-    Unsound,
 }
 
 // A setting's numbers, with those of its header.
@@ -59,69 +62,6 @@ pub fn joined(
     }
 }
 
-// The plan with the scalars by which a loop was told its case in their places, where they are the plan's own: so the compiler knows them.
-pub fn cased(
-    layout: usize,
-    lenwidth: usize,
-    ctrwidth: usize,
-    size: usize,
-    align: usize,
-    p: Plan,
-) -> Plan
-    requires { Cased layout lenwidth ctrwidth size align p }
-    ensures { result ≡ p }
-{
-    Plan {
-        layout,
-        header: p.header,
-        align,
-        datapacket: p.datapacket,
-        longest: p.longest,
-        direction: p.direction,
-        node: p.node,
-        size,
-        lenwidth,
-        ctrwidth,
-    }
-}
-
-// The most bytes of an input or an output, where each packet has a header of its own: a datagram's are those of its one data packet.
-pub fn most(p: Plan) -> usize
-    ensures { result ≡ most_of p }
-{
-    pick(p.layout == 4, p.datapacket, 262144)
-}
-
-// Whether data packets may end with a rest.
-pub fn rests(p: Plan) -> bool
-    ensures { result ≡ rests_of p }
-{
-    either(p.layout == 1, p.layout == 2)
-}
-
-// Where the header stands at a place. A frame's place is the end of a packet, and the byte before the next packet is its header.
-pub fn header(p: Plan, q: usize) -> usize
-    requires { Near p.align q }
-    ensures { Beyond (header_at p q) q result }
-{
-    if p.layout == 3 {
-        return rounded(p.align, q + 1) - 1;
-    }
-    q
-}
-
-// The place behind a packet that ends at e: behind its tail, where it has one. Places are multiples of the alignment, so that rounding the place
-// is rounding the message; a datagram's alignment is 1.
-pub fn behind(p: Plan, e: usize) -> usize
-    requires { Near p.align e }
-    ensures { Beyond (behind_at p e) e result }
-{
-    if p.layout == 3 {
-        return e;
-    }
-    rounded(p.align, e)
-}
-
 // The end of the data packet in which a stream's place stands, behind a place whose data packet has this end. One end between is passed without a
 // branch, since none can foresee where the messages of a stream end; a division only where there are more.
 pub fn streamed(m: usize, end: usize, q: usize) -> usize
@@ -135,33 +75,98 @@ pub fn streamed(m: usize, end: usize, q: usize) -> usize
     q + (m - q % m)
 }
 
-// The start of the next data packet.
-pub fn next_packet(p: Plan, a: At) -> At
-    requires { a.end + p.datapacket ≤ 2000000000 }
-    ensures { result ≡ packet_after p a }
-{
-    At {
-        q: a.end,
-        end: a.end + p.datapacket,
+impl Plan {
+    // The plan with the scalars by which a loop was told its case in their places, where they are the plan's own: so the compiler knows them.
+    pub fn cased(
+        self,
+        layout: usize,
+        lenwidth: usize,
+        ctrwidth: usize,
+        size: usize,
+        align: usize,
+    ) -> Self
+        requires { Cased layout lenwidth ctrwidth size align self }
+        ensures { result ≡ self }
+    {
+        Self {
+            layout,
+            header: self.header,
+            align,
+            datapacket: self.datapacket,
+            longest: self.longest,
+            direction: self.direction,
+            node: self.node,
+            size,
+            lenwidth,
+            ctrwidth,
+        }
     }
-}
 
-// The place behind a message. A single one leaves the rest of its data packet free, which is passed with it.
-pub fn on(p: Plan, a: At, next: usize) -> At
-    requires { Streaming p.datapacket a.end next }
-    ensures { result ≡ on_at p a next }
-{
-    if p.layout == 0 {
-        return next_packet(p, a);
+    // The most bytes of an input or an output, where each packet has a header of its own: a datagram's are those of its one data packet.
+    pub fn most(self) -> usize
+        ensures { result ≡ most_of self }
+    {
+        pick(self.layout == DATAGRAM, self.datapacket, 262144)
     }
-    if p.layout == 2 {
-        return At {
+
+    // Whether data packets may end with a rest.
+    pub fn rests(self) -> bool
+        ensures { result ≡ rests_of self }
+    {
+        either(self.layout == MULTIPLE, self.layout == STREAMING)
+    }
+
+    // Where the header stands at a place. A frame's place is the end of a packet, and the byte before the next packet is its header.
+    pub fn header(self, q: usize) -> usize
+        requires { Near self.align q }
+        ensures { Beyond (header_at self q) q result }
+    {
+        if self.layout == FRAME {
+            return rounded(self.align, q + 1) - 1;
+        }
+        q
+    }
+
+    // The place behind a packet that ends at e: behind its tail, where it has one. Places are multiples of the alignment, so that rounding the place
+    // is rounding the message; a datagram's alignment is 1.
+    pub fn behind(self, e: usize) -> usize
+        requires { Near self.align e }
+        ensures { Beyond (behind_at self e) e result }
+    {
+        if self.layout == FRAME {
+            return e;
+        }
+        rounded(self.align, e)
+    }
+
+    // The start of the next data packet.
+    pub fn next_packet(self, a: At) -> At
+        requires { a.end + self.datapacket ≤ 2000000000 }
+        ensures { result ≡ packet_after self a }
+    {
+        At {
+            q: a.end,
+            end: a.end + self.datapacket,
+        }
+    }
+
+    // The place behind a message. A single one leaves the rest of its data packet free, which is passed with it.
+    pub fn on(self, a: At, next: usize) -> At
+        requires { Streaming self.datapacket a.end next }
+        ensures { result ≡ on_at self a next }
+    {
+        if self.layout == SINGLE {
+            return self.next_packet(a);
+        }
+        if self.layout == STREAMING {
+            return At {
+                q: next,
+                end: streamed(self.datapacket, a.end, next),
+            };
+        }
+        At {
             q: next,
-            end: streamed(p.datapacket, a.end, next),
-        };
-    }
-    At {
-        q: next,
-        end: a.end,
+            end: a.end,
+        }
     }
 }

@@ -2,10 +2,10 @@
 use Rattle.std.specs.Prelude.{ℕ, ◌≡◌, List}
 use Rattle.description.specs.declared.Described.{Described}
 use Rattle.description.specs.declared.Described.TheVariants as D
-use Rattle.packet.specs.declared.Checked.{Checked}
+use Rattle.packet.specs.Part.{Checked}
 use Rattle.packet.specs.declared.Counter.{Counter}
-use Rattle.packet.specs.declared.Reading.{Reading}
-use Rattle.packet.specs.declared.Writing.{Writing}
+use Rattle.packet.specs.Reading.{Reading}
+use Rattle.packet.specs.Writing.{Writing}
 use Rattle.packet.specs.Answer.{Answer, read_number, read_value, read_state, write_number, write_value, write_counter}
 use Rattle.packet.specs.Part.{check_number, check_place}
 use Rattle.usb.specs.declared.Setting.{Setting}

@@ -7,10 +7,10 @@ use mathlib.Core.Bool.{true}
 use mathlib.Core.List.{List, [], ◌∷◌, ◌++◌, map}
 use lib.ListN.{length, take, get_or, replicate}
 use Rattle.packet.specs.declared.Counter.{Counter}
-use Rattle.packet.specs.declared.Reading.{Reading}
-use Rattle.packet.specs.declared.Reading.TheVariants as R
-use Rattle.packet.specs.declared.Writing.{Writing}
-use Rattle.packet.specs.declared.Writing.TheVariants as W
+use Rattle.packet.specs.Reading.{Reading}
+use Rattle.packet.specs.Reading.{Reading as R}
+use Rattle.packet.specs.Writing.{Writing}
+use Rattle.packet.specs.Writing.{Writing as W}
 use Rattle.packet.specs.Message.{Msg}
 use Rattle.packet.specs.Counter.{valid}
 use Rattle.packet.specs.Packets.{packets}

@@ -9,9 +9,9 @@ use mathlib.Core.List.{List, [], ◌∷◌}
 use lib.ListN.{length, get_or, take}
 use lib.Seq.{get_or-take}
 use Rattle.packet.specs.declared.Counter.{Counter}
-use Rattle.packet.specs.declared.Reading.{Reading}
-use Rattle.packet.specs.declared.Reading.TheVariants as R
-use Rattle.packet.specs.declared.Writing.TheVariants as W
+use Rattle.packet.specs.Reading.{Reading}
+use Rattle.packet.specs.Reading.{Reading as R}
+use Rattle.packet.specs.Writing.{Writing as W}
 use Rattle.packet.specs.Message.{Msg}
 use Rattle.packet.specs.Counter.{valid}
 use Rattle.packet.specs.Packets.{packets}

@@ -13,7 +13,7 @@ use Rattle.layout.proofs.pick.Reads as Pick
 use Rattle.layout.proofs.put_field.Reads as PutField
 use Rattle.layout.proofs.wide32.Reads as Wide
 use Rattle.packet.specs.declared.Counter.{Counter}
-use Rattle.packet.specs.declared.Reading.{Reading}
+use Rattle.packet.specs.Reading.{Reading}
 use Rattle.packet.specs.Answer.{Answer}
 use Rattle.packet.proofs.AnswerLaws.{one-result}
 use Rattle.packet.proofs.Counter.fresh.Reads as Fresh

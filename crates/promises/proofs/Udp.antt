@@ -7,10 +7,10 @@ use mathlib.Core.Bool.{true}
 use mathlib.Core.List.{List, map}
 use lib.ListN.{length, length-map, take, get_or}
 use Rattle.packet.specs.declared.Counter.{Counter}
-use Rattle.packet.specs.declared.Reading.{Reading}
-use Rattle.packet.specs.declared.Reading.TheVariants as R
-use Rattle.packet.specs.declared.Writing.{Writing}
-use Rattle.packet.specs.declared.Writing.TheVariants as W
+use Rattle.packet.specs.Reading.{Reading}
+use Rattle.packet.specs.Reading.{Reading as R}
+use Rattle.packet.specs.Writing.{Writing}
+use Rattle.packet.specs.Writing.{Writing as W}
 use Rattle.packet.specs.Answer.{Gives}
 use Rattle.packet.specs.Counter.{valid, later}
 use Rattle.packet.specs.Message.{Msg}

@@ -10,9 +10,9 @@ use borrow.Author.Tests.{le-ltb, lt-ltb}
 use Rattle.layout.specs.Multiple.{pad}
 use Rattle.layout.specs.Walk.{walk, go, Out.list}
 use Rattle.packet.specs.declared.Counter.{Counter}
-use Rattle.packet.specs.declared.Reading.TheVariants as Reads
-use Rattle.packet.specs.declared.Seen.TheVariants as Seen
-use Rattle.packet.specs.declared.Writing.TheVariants as Writes
+use Rattle.packet.specs.Reading.{Reading as Reads}
+use Rattle.packet.specs.Seen.{Seen as Seen}
+use Rattle.packet.specs.Writing.{Writing as Writes}
 use Rattle.packet.specs.Counter.{fresh, valid, gap, next, later, advance}
 use Rattle.packet.specs.Row.{row, table, behind}
 use Rattle.packet.specs.Packets.{packets, mismatched, first}

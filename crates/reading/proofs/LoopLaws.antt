@@ -10,13 +10,13 @@ use Rattle.layout.specs.Walk.{Out, Out.list, Out.refused}
 use Rattle.packet.specs.declared.At.{At}
 use Rattle.packet.specs.declared.Counter.{Counter}
 use Rattle.packet.specs.declared.Found.{Found}
-use Rattle.packet.specs.declared.Seen.{Seen}
-use Rattle.packet.specs.declared.Seen.TheVariants as S
+use Rattle.packet.specs.Seen.{Seen}
+use Rattle.packet.specs.Seen.{Seen as S}
 use Rattle.packet.specs.Limit.{most_bytes}
 use Rattle.packet.specs.Message.{Msg}
 use Rattle.packet.specs.Seen.{message}
 use Rattle.plan.specs.declared.Plan.{Plan}
-use Rattle.rows.specs.declared.Judged.TheVariants.{Rows, Refused}
+use Rattle.rows.specs.Count.{Judged.Rows, Judged.Refused}
 use Rattle.rows.specs.Count.{counted, JudgedAs}
 use Rattle.rows.specs.Fill.{Filled, Filled.filled, filling, Room, Filling}
 use Rattle.rows.specs.Rows.{Putting, Put}

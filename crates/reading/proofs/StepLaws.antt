@@ -11,7 +11,7 @@ use borrow.Author.Tests.{leb-true, ne_eqb}
 use Rattle.layout.specs.Leaf.{Within, Number}
 use Rattle.packet.specs.declared.At.{At}
 use Rattle.packet.specs.declared.Found.{Found}
-use Rattle.packet.specs.declared.Seen.{Seen}
+use Rattle.packet.specs.Seen.{Seen}
 use Rattle.plan.specs.declared.Plan.{Plan}
 use Rattle.plan.specs.Place.{header_at, on_at, Beyond}
 use Rattle.reading.specs.Step.{bare_seen, past_at, message_by, len, seen}

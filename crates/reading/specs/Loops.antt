@@ -3,12 +3,12 @@ use Rattle.std.specs.Prelude.{ℕ, ◌+◌, ◌*◌, ◌^◌, ◌<◌, ◌≤◌
 use Rattle.packet.specs.declared.At.{At}
 use Rattle.packet.specs.declared.Counter.{Counter}
 use Rattle.packet.specs.declared.Found.{Found}
-use Rattle.packet.specs.declared.Seen.{Seen}
-use Rattle.packet.specs.declared.Seen.TheVariants as S
+use Rattle.packet.specs.Seen.{Seen}
+use Rattle.packet.specs.Seen.{Seen as S}
 use Rattle.packet.specs.Limit.{most_bytes}
 use Rattle.plan.specs.declared.Plan.{Plan}
 use Rattle.plan.specs.Plan.{Sized}
-use Rattle.rows.specs.declared.Judged.TheVariants.{Rows}
+use Rattle.rows.specs.Count.{Judged.Rows}
 use Rattle.rows.specs.Count.{counted}
 use Rattle.rows.specs.Counters.{Sane}
 use Rattle.reading.specs.Reads.{reads}

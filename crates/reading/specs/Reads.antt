@@ -2,8 +2,8 @@
 use Rattle.std.specs.Prelude.{ℕ, zero, suc, ◌+◌, ◌-◌, ◌≡◌, List, [], ◌∷◌, length}
 use Rattle.layout.specs.Walk.{Out, before, Out.list, Out.refused}
 use Rattle.packet.specs.declared.At.{At}
-use Rattle.packet.specs.declared.Seen.{Seen}
-use Rattle.packet.specs.declared.Seen.TheVariants.{Nothing, Message, Rest, Refused}
+use Rattle.packet.specs.Seen.{Seen}
+use Rattle.packet.specs.Seen.{Nothing, Message, Rest, Refused}
 use Rattle.packet.specs.Message.{Msg}
 use Rattle.packet.specs.Seen.{message}
 use Rattle.plan.specs.declared.Plan.{Plan}

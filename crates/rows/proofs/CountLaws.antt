@@ -5,7 +5,7 @@ use mathlib.Core.Path.{◌≡◌, refl, ap}
 use mathlib.Core.List.{[], ◌∷◌}
 use Rattle.layout.specs.Walk.{Out, before, Out.list, Out.refused}
 use Rattle.packet.specs.Message.{Msg}
-use Rattle.rows.specs.declared.Judged.TheVariants.{Rows}
+use Rattle.rows.specs.Count.{Judged.Rows}
 use Rattle.rows.specs.Count.{counted}
 
 -- one row is counted, and then the others

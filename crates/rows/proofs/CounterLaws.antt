@@ -1,5 +1,5 @@
 -- Counters of no, one and two bytes, as the code counts them.
-use Prim.Native.Nat.{ℕ, suc, ◌+◌, ◌%◌, ◌^◌, ◌<◌}
+use Prim.Native.Nat.{ℕ, ◌+◌, ◌%◌, ◌^◌, ◌<◌}
 use native.Mathlib.Omega.{arith}
 use native.Mathlib.Nat.{mod-lt}
 use mathlib.Core.Path.{◌≡◌, refl, sym, ◌∙◌}
@@ -9,21 +9,10 @@ use borrow.Author.Tests.{eqb-true, eq-eqb, ne_eqb}
 use Rattle.packet.specs.declared.Counter.{Counter}
 use Rattle.packet.specs.Counter.{valid, difference, gap, next, later, advance}
 use Rattle.packet.proofs.CounterLaws.{held}
-use Rattle.rows.specs.Counters.{Apart, Parted, Said, After, Sane, Counted, Advanced}
+use Rattle.rows.specs.Counters.{Parted, Said, After, Sane, Counted, Advanced}
 
-pub in_byte : {w n : ℕ} → w ≡ 1 → n < 256 ^ w → n < 256
-in_byte e h = rw e at h
-
-pub in_two : {w n : ℕ} → w ≡ 2 → n < 256 ^ w → n < 65536
-in_two e h = rw e at h
-
-pub apart_none : {w : ℕ} → w ≡ 0 → (n e : ℕ) → 0 ≡ difference w n e
+apart_none : {w : ℕ} → w ≡ 0 → (n e : ℕ) → 0 ≡ difference w n e
 apart_none z n e = rw z (omega arith)
-
-pub some-apart : {w n e : ℕ} → Parted w n e → (k : ℕ) → w ≡ suc k → Apart (suc k) n e
-some-apart {w} {n} {e} h k z =
-    let a : Apart w n e = record { narrow = h.narrow; received = h.received; expected = h.expected (omega arith) } in
-    rw z at a
 
 -- the counter after n
 module _ {w n : ℕ} (h : Said w n) where

@@ -1,23 +1,21 @@
 -- A row is the one of its message, and where it was put the next has its place behind it.
 use Prim.Native.Nat.{ℕ, ◌-◌, ◌<◌, ◌≤◌}
 use native.Mathlib.Omega.{arith}
-use mathlib.Core.Path.{◌≡◌, refl, ap, ◌∙◌}
+use mathlib.Core.Path.{◌≡◌, refl}
 use mathlib.Core.Bool.{Bool, true, false, cond}
 use mathlib.Core.List.{List}
 use lib.ListN.{length, get_or, take, drop, length-take, length-drop}
-use lib.Seq.{sets, length-sets, get_or-take, take_all}
+use lib.Seq.{get_or-take, take_all}
 use lib.Dec.{eqb}
 use borrow.Author.Tests.{eqb-false, eq-eqb, ne_eqb}
 use Rattle.layout.proofs.PartLaws.{long}
 use Rattle.packet.specs.declared.Counter.{Counter}
 use Rattle.packet.specs.declared.Found.{Found}
-use Rattle.packet.specs.declared.Row.{Row}
 use Rattle.packet.specs.Counter.{gap}
 use Rattle.packet.specs.Kind.{slave, master, kind_from, kind_of}
-use Rattle.packet.specs.Row.{row, numbers}
+use Rattle.packet.specs.Row.{row}
 use Rattle.packet.specs.Seen.{message}
-use Rattle.rows.specs.Counters.{Advanced}
-use Rattle.rows.specs.Rows.{Rowable, Putting, Put}
+use Rattle.rows.specs.Rows.{Rowable}
 
 -- the kind of a packet is that of the bytes from its place on
 kind-is : {d : ℕ} (b : List ℕ) (n : ℕ) → d < 2 → 0 < n → n ≤ length b → kind_from (eqb d 0) b ≡ kind_of d (take n b)
@@ -37,10 +35,6 @@ module _ {d w : ℕ} {t : List ℕ} {c : Counter} {m : Found} (h : Rowable d w t
   whole : part ≡ drop m.at t
   whole = take_all (length t - m.at) (drop m.at t) (omega (arith, length-drop m.at t))
 
-  -- the part from its place on has bytes
-  pub part_some : 0 < length part
-  part_some = rw whole (simp length-drop (omega (arith, h.inside, h.some)))
-
   pub row_is : {g k : ℕ} → g ≡ gap w c m.ctr → k ≡ kind_from (eqb d 0) part
       → record { place = m.at; length = m.len; counter = m.ctr; gap = g; kind = k } ≡ row d w c (message t m)
   unfolding row
@@ -48,14 +42,3 @@ module _ {d w : ℕ} {t : List ℕ} {c : Counter} {m : Found} (h : Rowable d w t
       let l : length (take m.len (drop m.at t)) ≡ m.len = long t m.at m.len h.inside in
       let i : m.len ≤ length (drop m.at t) = simp length-drop (omega (arith, h.inside)) in
       rw (e, k, whole, kind-is (drop m.at t) m.len h.way h.some i, l)
-
-pub put_is : {d w : ℕ} {t : List ℕ} {c : Counter} {m : Found} {i : ℕ} {old new : List ℕ} → Putting d w t c m i (length old)
-    → {r : Row} → r ≡ row d w c (message t m) → new ≡ sets old i (numbers r) → {s : Counter} → Advanced w c m.ctr s
-    → Put d w t c m i old new s
-put_is {i = i} {old = old} h {r} e f a =
-    record {
-      rows = f ∙ ap (λ x. sets old i (numbers x)) e;
-      state = a.is;
-      sane = a.sane;
-      room = omega (arith, h.room, ap length f, length-sets old i (numbers r));
-    }

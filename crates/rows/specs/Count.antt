@@ -1,9 +1,19 @@
 -- Judging: the rows of what is read, counted, or the first refusal. It is the same for every layout; only what is ahead differs.
-use Rattle.std.specs.Prelude.{ℕ, ◌+◌, ◌≤◌, ◌≡◌, length}
+use Rattle.std.specs.Prelude.{ℕ, ◌+◌, ◌≤◌, ◌≡◌, length, Result, Ok, Err}
 use Rattle.layout.specs.Walk.{Out, Out.list, Out.refused}
+use Rattle.packet.specs.declared.Refusal.{Refusal}
 use Rattle.packet.specs.Message.{Msg}
-use Rattle.rows.specs.declared.Judged.{Judged}
-use Rattle.rows.specs.declared.Judged.TheVariants.{Rows, Refused}
+use Rattle.packet.specs.Said.{number_of}
+
+-- how many rows an input has, or its first refusal's number and place
+pub data Judged : Type 0 where
+  Rows : ℕ → Judged
+  Refused : ℕ → ℕ → Judged
+
+-- .. as the code says it
+abbrev pub judged_said : Result ℕ Refusal → Judged
+judged_said (Ok k) = Rows k
+judged_said (Err e) = Refused (number_of e.reason) e.place
 
 -- behind k rows
 abbrev pub counted : ℕ → Out Msg → Judged

@@ -7,12 +7,7 @@ use Rattle.packet.specs.Counter.{next, advance}
 pub record Narrow (w : ℕ) : Type 0 where
   pub narrow : w ≤ 2
 
-pub record Apart (w n e : ℕ) : Type 0 where
-  pub narrow : w ≤ 2
-  pub received : n < 256 ^ w
-  pub expected : e < 256 ^ w
-
--- .. where there may be none
+-- numbers of a counter; any expected one where there is none
 pub record Parted (w n e : ℕ) : Type 0 where
   pub narrow : w ≤ 2
   pub received : n < 256 ^ w

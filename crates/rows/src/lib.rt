@@ -1,26 +1,18 @@
 // What every transport's reader does with a message it found: its gap, the counter state behind it, and its row in the lent table; and how it
-// refuses.
+// how much room rows need.
 #![tactic(auto)]
 
 ghost use Rattle.std.specs.Prelude.{◌≡◌, ◌+◌, ◌*◌, ◌≤◌, length, ltb};
 ghost use Rattle.std.proofs.lemmas.List.Edits.{sets};
-ghost use Rattle.packet.specs.Answer.{Gives, read_refused};
 ghost use Rattle.packet.specs.Counter.{difference, gap as gap_of, holds as holds_of, valid as valid_of};
 ghost use Rattle.packet.specs.Limit.{Short};
 ghost use Rattle.packet.specs.Row.{row, numbers};
 ghost use Rattle.packet.specs.Seen.{message};
-ghost use Rattle.rows.specs.Counters.{Narrow, Apart, Parted, Said, After, Counted, Advanced};
+ghost use Rattle.rows.specs.Counters.{Narrow, Parted, Said, After, Counted, Advanced};
 ghost use Rattle.rows.specs.Rows.{Rowable, Putting, Put};
 
 use layout::either;
-use packet::{Counter, Found, Reading, Row, gap8, gap16, kind_of};
-
-// How many rows an input has, or its first refusal.
-#[derive(Clone, Copy)]
-pub enum Judged {
-    Rows(usize),
-    Refused(u32, usize),
-}
+use packet::{Counter, Found, Row, gap8, gap16, kind_of};
 
 // Whether a counter of so many bytes can be n; any number where there is none.
 pub fn holds(width: usize, n: u32) -> bool
@@ -42,30 +34,14 @@ pub fn valid(width: usize, c: Counter) -> bool
     either(c.known == 0, holds(width, c.expected))
 }
 
-// Received less expected, modulo the size of a counter of one byte.
-fn apart8(received: u32, expected: u32) -> u32
-    requires { Apart 1 received expected }
-    ensures { result ≡ difference 1 received expected }
-{
-    gap8(received as u8, expected as u8) as u32
-}
-
-// The same for a counter of two bytes.
-fn apart16(received: u32, expected: u32) -> u32
-    requires { Apart 2 received expected }
-    ensures { result ≡ difference 2 received expected }
-{
-    gap16(received as u16, expected as u16) as u32
-}
-
-// The same for a counter of so many bytes.
+// Received less expected, modulo the size of a counter of so many bytes.
 fn apart(width: usize, received: u32, expected: u32) -> u32
     requires { Parted width received expected }
     ensures { result ≡ difference width received expected }
 {
     match width {
-        1 => apart8(received, expected),
-        2 => apart16(received, expected),
+        1 => u32::from(gap8(received as u8, expected as u8)),
+        2 => u32::from(gap16(received as u16, expected as u16)),
         _ => 0,
     }
 }
@@ -116,7 +92,7 @@ fn row_of(direction: u32, width: usize, t: &[u8], c: Counter, m: Found) -> Row
         length: m.len as u32,
         counter: m.ctr,
         gap: gap(width, c, m.ctr),
-        kind: kind_of(direction == 0, &t[at..]),
+        kind: u32::from(kind_of(direction == 0, &t[at..])),
     }
 }
 
@@ -146,14 +122,6 @@ pub fn put(
 {
     put_row(rows, i, row_of(direction, width, t, c, m));
     advance(width, c, m.ctr)
-}
-
-// Every refusal of a reader leaves here, with the table as it came.
-pub fn refuse(rows: &mut [u32], number: u32, place: usize) -> Reading
-    requires { Short place }
-    ensures { Gives (read_refused rows.old number place) result rows.new }
-{
-    Reading::Refused(number, place as u32)
 }
 
 // Whether so many numbers are too few for k rows.

@@ -12,7 +12,7 @@ use Rattle.layout.proofs.OutcomeLaws.{Keeps}
 use Rattle.layout.proofs.PartLaws.{cut, long, behind}
 use Rattle.packet.specs.Message.{Msg}
 use Rattle.packet.specs.Seen.{as_step}
-use Rattle.packet.specs.declared.Seen.{Seen}
+use Rattle.packet.specs.Seen.{Seen}
 use Rattle.udp.specs.declared.Setting.{Setting}
 use Rattle.udp.specs.Setting.{fields, H}
 use Rattle.udp.specs.Layout.{Message, Laid}

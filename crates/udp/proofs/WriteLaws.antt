@@ -11,7 +11,7 @@ use borrow.Author.Tests.{ltb-true, ltb-false, eqb-true, eqb-false}
 use Rattle.layout.specs.Field.{values, puts, says, Name.LEN, Name.CTR}
 use Rattle.layout.proofs.FieldLaws.{length-puts, says-puts}
 use Rattle.layout.proofs.TestLaws.{Tells, Tells.passes, Tells.fails}
-use Rattle.packet.specs.declared.Writing.TheVariants as W
+use Rattle.packet.specs.Writing.{Writing as W}
 use Rattle.packet.specs.Counter.{holds, next, later}
 use Rattle.packet.specs.Message.{Msg}
 use Rattle.packet.specs.Packets.{sum, packets}

@@ -2,7 +2,7 @@
 use Rattle.std.specs.Prelude.{ℕ, ◌+◌, Bool, ◌||◌, List, [], ◌∷◌, ◌++◌, length, ltb, eqb}
 use Rattle.layout.specs.Field.{values, puts}
 use Rattle.layout.specs.Walk.{Out}
-use Rattle.packet.specs.declared.Writing.{Writing}
+use Rattle.packet.specs.Writing.{Writing}
 use Rattle.packet.specs.Answer.{Answer, weighed, stored}
 use Rattle.packet.specs.Counter.{holds, next, later}
 use Rattle.packet.specs.Message.{Msg}

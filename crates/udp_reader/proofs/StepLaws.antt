@@ -9,7 +9,7 @@ use borrow.Author.Tests.{le-leb}
 use Rattle.layout.specs.Walk.{after, before}
 use Rattle.layout.proofs.WalkLaws.{walk_eq}
 use Rattle.packet.specs.declared.At.{At}
-use Rattle.packet.specs.declared.Seen.{Seen}
+use Rattle.packet.specs.Seen.{Seen}
 use Rattle.packet.specs.Seen.{message, as_step}
 use Rattle.reading.specs.Loops.{Standing}
 use Rattle.reading.specs.Reads.{Tells}

@@ -6,7 +6,7 @@ use mathlib.Core.Logic.{◌↔◌}
 use mathlib.Core.List.{List}
 use lib.ListN.{length}
 use Rattle.packet.specs.declared.Counter.{Counter}
-use Rattle.packet.specs.declared.Reading.TheVariants as R
+use Rattle.packet.specs.Reading.{Reading as R}
 use Rattle.packet.specs.Row.{table, behind}
 use Rattle.packet.proofs.CounterLaws.{valid_without}
 use Rattle.packet.proofs.ReadTableLaws as T

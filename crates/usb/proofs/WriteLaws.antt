@@ -9,7 +9,7 @@ use lib.ListN.{length, take, drop}
 use lib.Dec.{ltb, eqb}
 use borrow.Author.Tests.{ltb-true, ltb-false, eqb-true, eqb-false}
 use Rattle.layout.proofs.TestLaws.{Tells, Tells.passes, Tells.fails}
-use Rattle.packet.specs.declared.Writing.TheVariants as W
+use Rattle.packet.specs.Writing.{Writing as W}
 use Rattle.packet.specs.Limit.{most_bytes}
 use Rattle.packet.specs.Packets.{packets}
 use Rattle.packet.proofs.AnswerLaws.{Exact}

@@ -4,13 +4,13 @@ use Rattle.layout.specs.Field.{says, Name.LEN, Name.CTR}
 use Rattle.layout.specs.Walk.{Step, Out, walk}
 use Rattle.packet.specs.declared.At.{At}
 use Rattle.packet.specs.declared.Counter.{Counter}
-use Rattle.packet.specs.declared.Seen.{Seen}
-use Rattle.packet.specs.declared.Seen.TheVariants as S
+use Rattle.packet.specs.Seen.{Seen}
+use Rattle.packet.specs.Seen.{Seen as S}
 use Rattle.packet.specs.Message.{Msg}
 use Rattle.packet.specs.Seen.{as_step}
 use Rattle.packet.specs.Counter.{valid}
 use Rattle.packet.specs.Row.{table, behind}
-use Rattle.packet.specs.declared.Reading.{Reading}
+use Rattle.packet.specs.Reading.{Reading}
 use Rattle.packet.specs.Answer.{Answer, bounded, answered}
 use Rattle.packet.specs.Limit.{most_bytes}
 use Rattle.usb.specs.declared.Setting.{Setting}

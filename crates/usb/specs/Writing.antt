@@ -7,7 +7,7 @@ use Rattle.packet.specs.Message.{Msg}
 use Rattle.packet.specs.Counter.{holds, next, later}
 use Rattle.packet.specs.Limit.{most_bytes}
 use Rattle.packet.specs.Packets.{packets, mismatched, first}
-use Rattle.packet.specs.declared.Writing.{Writing}
+use Rattle.packet.specs.Writing.{Writing}
 use Rattle.packet.specs.Answer.{Answer, weighed, stored}
 use Rattle.usb.specs.declared.Setting.{Setting}
 use Rattle.usb.specs.Setting.{fields, H, W, whole, sound}

@@ -15,8 +15,8 @@ use Rattle.layout.specs.Walk.{after, before, Out.list, Out.refused}
 use Rattle.layout.proofs.MultipleLaws.{pad-whole, aligned_power}
 use Rattle.layout.proofs.WalkLaws.{walk_eq}
 use Rattle.packet.specs.declared.At.{At}
-use Rattle.packet.specs.declared.Seen.{Seen}
-use Rattle.packet.specs.declared.Seen.TheVariants as S
+use Rattle.packet.specs.Seen.{Seen}
+use Rattle.packet.specs.Seen.{Seen as S}
 use Rattle.packet.specs.Seen.{message, as_step}
 use Rattle.plan.specs.declared.Plan.{Plan}
 use Rattle.plan.specs.Place.{streamed_at, packet_after}

@@ -1,12 +1,6 @@
 use native.Mathlib.Omega.{arith}
-use Rattle.rows.proofs.CounterLaws.{in_byte, in_two, said-below, after_none, after_byte, after_two}
+use Rattle.rows.proofs.CounterLaws.{after_none, after_byte, after_two}
 use Rattle.rows.proofs.after.Goals as goal
-
-pub overflow_add-result : goal.overflow_add-result
-overflow_add-result c = omega (arith, in_byte c.in-1.is (said-below c.requires (λ e. omega arith)))
-
-pub overflow_add-result-in-2 : goal.overflow_add-result-in-2
-overflow_add-result-in-2 c = omega (arith, in_two c.in-2.is (said-below c.requires (λ e. omega arith)))
 
 pub returns-in-1 : goal.returns-in-1
 returns-in-1 c = after_byte c.requires c.in-1.is
