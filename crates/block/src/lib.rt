@@ -5,120 +5,75 @@ ghost use Rattle.std.specs.Prelude.{◌≡◌, [], ◌≤◌, length};
 ghost use Rattle.std.proofs.Math.Option.{none};
 ghost use Rattle.description.specs.Reading.{State, whole, gone_on, reading};
 ghost use Rattle.description.specs.Standing.{most_text};
-ghost use Rattle.entries.specs.Entering.{slot_of};
-ghost use Rattle.block.specs.Blocks.{Steppable, Stepped};
+ghost use Rattle.entries.specs.Entering.{maybe};
+ghost use Rattle.block.specs.Blocks.{Steppable};
 
-use description::{Outcome, Reached, Said};
-use entries::{Entry, Gathered, Slot, read_entry};
-use expecting::{Expected, Series, expect, read_series};
-use finding::{Next, next_word};
+use description::Said;
+use entries::{Gathered, read_entry};
+use expecting::{OPENINGS, expect, read_series};
+use finding::next_word;
 use keywords::Kind;
-use passing::{Sign, next_sign};
-
-// What was found behind an entry, and the place there; or what the whole block comes to.
-#[derive(Clone, Copy)]
-enum Step {
-    On(Gathered, usize),
-    Done(Outcome),
-}
+use passing::{Names, Sign, next_sign};
+use words::{Word, Wrong};
 
 // Behind the block.
-fn behind(t: &[u8], q: usize, said: Said) -> Outcome
+fn behind(t: &[u8], q: usize, said: Said) -> Result<Said, Wrong>
     requires { q ≤ length t.now }
     ensures { result ≡ reading t.now q (State.done said) }
 {
-    match next_word(t, q) {
-        Next::Word(from, _) => Outcome::Wrong(from),
-        Next::End => Outcome::Right(said),
-        Next::Cut => Outcome::Wrong(t.len()),
+    match next_word(t, q)? {
+        Some(word) => Err(Wrong { place: word.from }),
+        None => Ok(said),
     }
 }
 
 // The block's name behind its /end.
-fn last_name(t: &[u8], q: usize, said: Said) -> Outcome
+fn last_name(t: &[u8], q: usize, said: Said) -> Result<Said, Wrong>
     requires { q ≤ length t.now }
     ensures { result ≡ reading t.now q (State.last said) }
 {
-    match expect(Kind::Block, t, q) {
-        Expected::Word(_, k) => behind(t, k, said),
-        Expected::Wrong(p) => Outcome::Wrong(p),
-    }
+    let (_, k) = expect(Kind::Block, t, q)?;
+    behind(t, k, said)
 }
 
-// The block's /end, from a place to a place: both endpoints were found, or it cannot stand.
-fn end(t: &[u8], from: usize, to: usize, g: Gathered) -> Outcome
-    requires { to ≤ length t.now }
-    ensures { result ≡ gone_on from (reading t.now to) (whole g.header (slot_of g.cmd) (slot_of g.res)) }
+// The block's /end: both endpoints were found, or it cannot stand.
+fn end(t: &[u8], word: Word, g: Gathered) -> Result<Said, Wrong>
+    requires { word.to ≤ length t.now }
+    ensures { result ≡ gone_on word.from (reading t.now word.to) (whole g.header (maybe g.cmd) (maybe g.res)) }
 {
+    let (Some(cmd), Some(res)) = (g.cmd, g.res) else {
+        return Err(Wrong { place: word.from });
+    };
     let header = g.header;
-    let cmd = g.cmd;
-    let res = g.res;
-    match cmd {
-        Slot::Empty => Outcome::Wrong(from),
-        Slot::Holds(c) => match res {
-            Slot::Empty => Outcome::Wrong(from),
-            Slot::Holds(r) => last_name(
-                t,
-                to,
-                Said {
-                    header,
-                    cmd: c,
-                    res: r,
-                },
-            ),
-        },
-    }
+    last_name(t, word.to, Said { header, cmd, res })
 }
 
-// An entry, or the block's end.
-fn next_entry(t: &[u8], q: usize, g: Gathered, names: &mut [u16]) -> Step
-    requires { Steppable t.now q names.old }
-    ensures { Stepped t.now q g result }
-{
-    match next_sign(t, q) {
-        Sign::Begin(_, to) => match read_entry(t, to, g, names) {
-            Entry::At(h, k) => Step::On(h, k),
-            Entry::Wrong(p) => Step::Done(Outcome::Wrong(p)),
-        },
-        Sign::End(from, to) => Step::Done(end(t, from, to, g)),
-        Sign::Other(_, to) => Step::On(g, to),
-        Sign::Stop(p) => Step::Done(Outcome::Wrong(p)),
-    }
-}
-
-// The entries behind the header.
-fn entries(t: &[u8], q: usize, header: u32, names: &mut [u16]) -> Outcome
-    requires { Steppable t.now q names.old }
+// The entries behind the header, up to the block's end.
+fn entries(t: &[u8], q: usize, header: u32, names: &mut Names) -> Result<Said, Wrong>
+    requires { Steppable t.now q }
     ensures { result ≡ reading t.now q (State.inside (record { header = header; cmd = none; res = none }) []) }
 {
     let mut g = Gathered {
         header,
-        cmd: Slot::Empty,
-        res: Slot::Empty,
+        cmd: None,
+        res: None,
     };
     let mut k = q;
     loop {
-        match next_entry(t, k, g, names) {
-            Step::On(h, to) => {
-                g = h;
-                k = to;
-            }
-            Step::Done(o) => return o,
+        let (sign, word) = next_sign(t, k)?;
+        match sign {
+            Sign::Begin => (g, k) = read_entry(t, word.to, g, names)?,
+            Sign::End => return end(t, word, g),
+            Sign::Other => k = word.to,
         }
     }
 }
 
-// What a text comes to. A name takes two numbers, and 16,384 bytes open no more than 2,340 blocks.
-pub fn read_block(t: &[u8]) -> Outcome
+// What a text comes to.
+pub fn read_block(t: &[u8]) -> Result<Said, Wrong>
     requires { length t.now ≤ most_text }
     ensures { result ≡ reading t.now 0 State.first }
 {
-    let mut values = [0u32; 7];
-    match read_series(Series::Opening, t, 0, &mut values) {
-        Reached::At(k) => {
-            let mut names = [0u16; 4680];
-            entries(t, k, values[6], &mut names)
-        }
-        Reached::Wrong(p) => Outcome::Wrong(p),
-    }
+    let (values, k) = read_series(&OPENINGS, t, 0)?;
+    entries(t, k, values[6], &mut Names::new())
 }

@@ -22,9 +22,8 @@ use Rattle.keywords.specs.Tables.{Text}
 use Rattle.description.specs.declared.Said.{Said}
 use Rattle.description.specs.Block.{Block}
 use Rattle.description.specs.Standing.{GoesOn, Stops, Describes, Wrong, most_text, cmd_setting, res_setting, both_sound, Refusal, Accept}
-use Rattle.description.specs.declared.Outcome.{Outcome}
-use Rattle.description.specs.declared.Outcome.TheVariants as O
-use Rattle.description.specs.Reading.{State, step, on, ending, gone_on, outcome, judge, reading, settings_of}
+use Rattle.description.specs.Reading as O
+use Rattle.description.specs.Reading.{Outcome, State, step, on, ending, gone_on, outcome, judge, reading, settings_of}
 use Rattle.description.proofs.BlockLaws.{reads}
 use Rattle.description.proofs.AheadLaws.{is_block, none-on}
 use Rattle.description.proofs.StandingLaws.{on-append, goes_on, taken, stops, stopped}

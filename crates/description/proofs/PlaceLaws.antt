@@ -10,10 +10,10 @@ use lib.ListN.{length, length-append}
 use Rattle.words.specs.Words.{Word, Parts}
 use Rattle.words.specs.Parting.{parting}
 use Rattle.words.proofs.PartLaws.{parts}
-use Rattle.description.specs.declared.Outcome.{Outcome}
-use Rattle.description.specs.declared.Outcome.TheVariants as O
+use Rattle.std.specs.Prelude.{Ok, Err}
+use Rattle.description.specs.Reading as O
 use Rattle.description.specs.declared.Said.{Said}
-use Rattle.description.specs.Reading.{State, step, ending, gone_on, outcome, reading}
+use Rattle.description.specs.Reading.{Outcome, State, step, ending, gone_on, outcome, reading}
 use Rattle.description.proofs.AnswerLaws.{endings}
 
 -- words that start at place n or before it
@@ -29,8 +29,8 @@ early {q} (Parts.word {s = s} {t = t} w r) h = (omega arith, early r (omega (ari
 
 -- a place that is wrong is at most n
 abbrev AtMost : ℕ → Outcome → Type 0
-AtMost n (O.Right x) = Unit {0}
-AtMost n (O.Wrong p) = p ≤ n
+AtMost n (Ok x) = Unit {0}
+AtMost n (Err e) = e.place ≤ n
 
 module _ (c : Bool) (n : ℕ) where
   at-end : (s : State) → AtMost n (cond c (ending s n) (O.Wrong n))

@@ -1,13 +1,12 @@
 -- Reading a block word by word: what is known behind the words so far, and what a word adds to it; and the answer for every text.
-use Rattle.std.specs.Prelude.{ℕ, zero, suc, Bool, cond, List, [], ◌∷◌, length, drop, ltb}
+use Rattle.std.specs.Prelude.{ℕ, zero, suc, Bool, cond, List, [], ◌∷◌, length, drop, ltb, Result, Ok, Err}
 use Rattle.std.proofs.Math.Option.{Option, none, some}
+use Rattle.words.specs.declared.Wrong.{Wrong as Place}
 use Rattle.words.specs.Words.{Word, same}
 use Rattle.words.specs.Parting.{parting}
 use Rattle.description.specs.declared.Described.{Described}
 use Rattle.description.specs.declared.Described.TheVariants as D
 use Rattle.description.specs.declared.Endpoint.{Endpoint}
-use Rattle.description.specs.declared.Outcome.{Outcome}
-use Rattle.description.specs.declared.Outcome.TheVariants.{Right, Wrong}
 use Rattle.description.specs.declared.Said.{Said}
 use Rattle.keywords.specs.declared.Side.{Side}
 use Rattle.keywords.specs.declared.Side.TheVariants.{Cmd, Res}
@@ -102,6 +101,16 @@ on o (w ∷ ws) = on (next o w) ws
 
 ---- The answer -----------------------------------------------------------------------------------------------------------------
 
+-- what a text's words come to: what the block says, or the place that is wrong
+abbrev pub Outcome : Type 0
+Outcome = Result Said Place
+
+abbrev pub Right : Said → Outcome
+Right x = Ok x
+
+abbrev pub Wrong : ℕ → Outcome
+Wrong p = Err (record { place = p })
+
 -- the text ends, at place n
 abbrev pub ending : State → ℕ → Outcome
 ending first n = Wrong n
@@ -130,8 +139,8 @@ outcome [] clean n s = cond clean (ending s n) (Wrong n)
 outcome (w ∷ ws) clean n s = gone_on w.at (outcome ws clean n) (step s w.text)
 
 abbrev pub judge : ℕ → Outcome → Described
-judge x (Right s) = cond (both_sound s x) (D.Both (cmd_setting s x) (res_setting s x)) (D.Refused 1 0)
-judge x (Wrong p) = D.Refused 9 p
+judge x (Ok s) = cond (both_sound s x) (D.Both (cmd_setting s x) (res_setting s x)) (D.Refused 1 0)
+judge x (Err w) = D.Refused 9 w.place
 
 -- what the text t comes to from place q on, in state s
 unfoldable pub reading : List ℕ → ℕ → State → Outcome

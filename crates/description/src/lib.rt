@@ -4,7 +4,7 @@
 use usb::Setting;
 
 // What an endpoint block says: data packet size M, packing, alignment in bytes.
-#[derive(Clone, Copy)]
+#[derive(Clone, Copy, Debug, PartialEq, Eq)]
 pub struct Endpoint {
     pub datapacket: u32,
     pub packing: u32,
@@ -12,25 +12,11 @@ pub struct Endpoint {
 }
 
 // What the block says: its header, and the endpoints of CMD and STIM and of RES, ERR, DAQ, EV and SERV.
-#[derive(Clone, Copy)]
+#[derive(Clone, Copy, Debug, PartialEq, Eq)]
 pub struct Said {
     pub header: u32,
     pub cmd: Endpoint,
     pub res: Endpoint,
-}
-
-// What a text's words come to: what the block says, or the place that is wrong.
-#[derive(Clone, Copy)]
-pub enum Outcome {
-    Right(Said),
-    Wrong(usize),
-}
-
-// The place behind words that were read; or the place that is wrong.
-#[derive(Clone, Copy)]
-pub enum Reached {
-    At(usize),
-    Wrong(usize),
 }
 
 // The settings of the CMD/STIM and of the RES/DAQ endpoint; or a refusal's number and place.

@@ -1,38 +1,30 @@
 -- What an entry comes to, by its name.
 use Prim.Native.Nat.{ℕ}
-use borrow.Author.Rules.{rules}
 use native.Mathlib.Omega.{arith}
-use mathlib.Core.Path.{◌≡◌, refl, sym, ap, ◌∙◌}
+use mathlib.Core.Path.{◌≡◌, refl, sym, ◌∙◌}
 use mathlib.Core.Bool.{Bool, true, false}
+use mathlib.Core.Option.{none, some}
 use mathlib.Core.List.{List, [], ◌∷◌}
 use lib.ListN.{get_or}
 use lib.Seq.{slice}
+use Rattle.std.specs.Prelude.{Result, Ok, Err, Some, None, is_some}
+use Rattle.std.specs.declared.option.Option as O
+use Rattle.words.specs.declared.Word.{Word}
+use Rattle.words.specs.declared.Wrong.{Wrong}
 use Rattle.words.specs.Words.{same}
 use Rattle.words.proofs.SameLaws.{same_true}
 use Rattle.keywords.specs.declared.Side.{Side}
 use Rattle.keywords.specs.declared.Side.TheVariants.{Cmd, Res}
-use Rattle.keywords.specs.Tables.{Text, name, plain, ordinary}
+use Rattle.keywords.specs.Tables.{Text, name as name_of, plain, ordinary}
 use Rattle.keywords.proofs.TableLaws.{to-ordinary}
 use Rattle.description.specs.declared.Endpoint.{Endpoint}
-use Rattle.description.specs.declared.Reached.{Reached}
-use Rattle.description.specs.declared.Reached.TheVariants as R
 use Rattle.description.specs.Reading.{Found, has, put, State, step, reading}
 use Rattle.description.proofs.BlockLaws.{step-entry, step-endpoint, step_second}
 use Rattle.description.proofs.TurnLaws.{turn_word}
-use Rattle.passing.specs.declared.Sign.{Sign}
-use Rattle.passing.specs.declared.Sign.TheVariants as G
-use Rattle.passing.specs.Passing.{Signed, Passable, Passed}
+use Rattle.passing.specs.Passing.{NextName, Passable, Passed}
 use Rattle.expecting.specs.Expecting.{parameters, Leads, Led}
 use Rattle.entries.specs.declared.Gathered.{Gathered}
-use Rattle.entries.specs.declared.Name.{Name}
-use Rattle.entries.specs.declared.Name.TheVariants as N
-use Rattle.entries.specs.declared.Slot.{Slot}
-use Rattle.entries.specs.declared.Slot.TheVariants as S
-use Rattle.entries.specs.declared.Parsing.{Parsing}
-use Rattle.entries.specs.declared.Parsing.TheVariants as P
-use Rattle.entries.specs.declared.Entry.{Entry}
-use Rattle.entries.specs.declared.Entry.TheVariants as E
-use Rattle.entries.specs.Entering.{slot_of, meant, NameOf, Parsed, Entering, Enterable, Enters}
+use Rattle.entries.specs.Entering.{maybe, meant, Parsed, Entering, Enterable, Enters}
 
 ---- An endpoint ----------------------------------------------------------------------------------------------------------------
 
@@ -41,7 +33,7 @@ abbrev pub endpoint_in : List ℕ → Endpoint
 endpoint_in vs = record { datapacket = get_or vs 2 0; packing = get_or vs 4 0; align = get_or vs 5 0 }
 
 parameters_lead : (k : Side) (f : Found)
-    → Leads parameters (State.endpoint k f) [] (λ vs. State.inside (put k (endpoint_in vs) f) (name k ∷ []))
+    → Leads parameters (State.endpoint k f) [] (λ vs. State.inside (put k (endpoint_in vs) f) (name_of k ∷ []))
 unfolding step
 parameters_lead k f = (
   λ _. State.transfers k f,
@@ -59,7 +51,7 @@ parameters_lead k f = (
           λ p. State.alignments k f m p,
           record { word = λ w. refl; early = λ n. refl },
           λ p. (
-            λ l. State.inside (put k (record { datapacket = m; packing = p; align = l }) f) (name k ∷ []),
+            λ l. State.inside (put k (record { datapacket = m; packing = p; align = l }) f) (name_of k ∷ []),
             record { word = λ w. refl; early = λ n. refl },
             λ l. refl,
           ),
@@ -69,132 +61,99 @@ parameters_lead k f = (
   ),
 )
 
-module _ {t : List ℕ} {to : ℕ} {vs : List ℕ} {r : Reached} (l : Led parameters t to vs r) where
-  pub parse_wrong : {from p : ℕ} → r ≡ R.Wrong p → Parsed t from to (P.Wrong p)
-  parse_wrong e =
+module _ {t : List ℕ} (name : Word) where
+  pub parse_wrong : {e : Wrong} → Led parameters t name.to (Err e) → Parsed t name (Err e)
+  parse_wrong l =
       record {
-        is = λ k f _. (rw e at l).is (State.endpoint k f) (λ vs. State.inside (put k (endpoint_in vs) f) (name k ∷ [])) (parameters_lead k f);
+        is = λ k f _. l.is (State.endpoint k f) (λ vs. State.inside (put k (endpoint_in vs) f) (name_of k ∷ [])) (parameters_lead k f);
         place = tt;
       }
 
-  module _ {k : ℕ} (e : r ≡ R.At k) where
-    behind-parameters : (w : Text) (s : Side) (f : Found) → w ≡ name s
-        → reading t to (State.endpoint s f) ≡ reading t k (State.inside (put s (endpoint_in vs) f) (w ∷ []))
+  module _ {vs : List ℕ} {k : ℕ} (l : Led parameters t name.to (Ok (vs, k))) where
+    behind-parameters : (w : Text) (s : Side) (f : Found) → w ≡ name_of s
+        → reading t name.to (State.endpoint s f) ≡ reading t k (State.inside (put s (endpoint_in vs) f) (w ∷ []))
     behind-parameters w s f n =
-        rw n ((rw e at l).is (State.endpoint s f) (λ vs. State.inside (put s (endpoint_in vs) f) (name s ∷ [])) (parameters_lead s f))
+        rw n (l.is (State.endpoint s f) (λ vs. State.inside (put s (endpoint_in vs) f) (name_of s ∷ [])) (parameters_lead s f))
 
-    pub parse_passable : {from : ℕ} {ps : List ℕ} → Passable t from to to ps → Passable t from to k ps
+    pub parse_passable : Passable t name name.to → Passable t name k
     parse_passable h =
-        let p = (rw e at l).place in
-        record { room = h.room; short = h.short; name = h.name; behind = p.0; inside = p.1; deep = omega (arith, p, h.deep) }
+        record { short = h.short; order = h.order; behind = l.place.0; inside = l.place.1; deep = omega (arith, l.place, h.deep) }
 
-    module _ {from q : ℕ} {x : Reached} (o : Passed t from to k x) where
-      pub parse_over : x ≡ R.At q → Parsed t from to (P.Endpoint (endpoint_in vs) q)
-      parse_over g =
-          let p = rw g at o in
-          record {
-            is = λ s f n. behind-parameters (slice from to t) s f n ∙ p.is (put s (endpoint_in vs) f);
-            place = (omega (arith, (rw e at l).place, p.place), p.place.1);
-          }
+    pub parse_over : {q : ℕ} → Passed t name k (Ok q) → Parsed t name (Ok (endpoint_in vs, q))
+    parse_over p =
+        record {
+          is = λ s f n. behind-parameters (slice name.from name.to t) s f n ∙ p.is (put s (endpoint_in vs) f);
+          place = (omega (arith, l.place, p.place), p.place.1);
+        }
 
-      pub parse_over-wrong : x ≡ R.Wrong q → Parsed t from to (P.Wrong q)
-      parse_over-wrong g =
-          record { is = λ s f n. behind-parameters (slice from to t) s f n ∙ (rw g at o).is (put s (endpoint_in vs) f); place = tt }
+    pub parse_over-wrong : {e : Wrong} → Passed t name k (Err e) → Parsed t name (Err e)
+    parse_over-wrong p =
+        record { is = λ s f n. behind-parameters (slice name.from name.to t) s f n ∙ p.is (put s (endpoint_in vs) f); place = tt }
 
 ---- An entry -------------------------------------------------------------------------------------------------------------------
 
-module _ {t : List ℕ} {from to : ℕ} {g : Gathered} where
-  module _ (k : Side) (n : slice from to t ≡ name k) {u : Slot} (v : slot_of u ≡ has k (meant g)) where
+maybe_some : (o : O.Option Endpoint) → is_some o ≡ true → (e : Endpoint) × (maybe o ≡ some e)
+maybe_some (Some e) h = (e, refl)
+maybe_some None h = cc
+
+maybe_none : (o : O.Option Endpoint) → is_some o ≡ false → maybe o ≡ none
+maybe_none (Some e) h = cc
+maybe_none None h = refl
+
+first : (k : Side) (g : Gathered) (o : O.Option Endpoint) → maybe o ≡ has k (meant g) → is_some o ≡ false
+    → step (State.begun (meant g) []) (name_of k) ≡ some (State.endpoint k (meant g))
+first k g o v x = step-endpoint k (meant g) (sym v ∙ maybe_none o x)
+
+module _ {t : List ℕ} {name : Word} {g : Gathered} where
+  module _ (k : Side) (n : slice name.from name.to t ≡ name_of k) (o : O.Option Endpoint) (v : maybe o ≡ has k (meant g)) where
     -- a second endpoint is refused at its name
-    pub enter_second : {e : Endpoint} → u ≡ S.Holds e → Entering t from to g (E.Wrong from)
-    enter_second x = record { is = rw (n, step_second k (meant g) (sym v ∙ ap slot_of x)); place = tt }
+    pub enter_second : is_some o ≡ true → Entering t name g (Err (record { place = name.from }))
+    enter_second x =
+        let (e, y) = maybe_some o x in
+        record { is = rw (n, step_second k (meant g) (sym v ∙ y)); place = tt }
 
-    module _ (x : u ≡ S.Empty) {y : Parsing} (p : Parsed t from to y) {q : ℕ} where
-      pub enter_first : {e : Endpoint} {h : Gathered} → y ≡ P.Endpoint e q → meant h ≡ put k e (meant g) → Entering t from to g (E.At h q)
-      enter_first z m =
-          let o = rw z at p in
-          record { is = rw (n, step-endpoint k (meant g) (sym v ∙ ap slot_of x), m) (o.is k (meant g) n); place = o.place }
+    module _ (x : is_some o ≡ false) where
+      pub enter_first : {e : Endpoint} {q : ℕ} {h : Gathered} → Parsed t name (Ok (e, q)) → meant h ≡ put k e (meant g) → Entering t name g (Ok (h, q))
+      enter_first p m = record { is = rw (n, first k g o v x, m) (p.is k (meant g) n); place = p.place }
 
-      pub enter_wrong : y ≡ P.Wrong q → Entering t from to g (E.Wrong q)
-      enter_wrong z =
-          record { is = rw (n, step-endpoint k (meant g) (sym v ∙ ap slot_of x)) ((rw z at p).is k (meant g) n); place = tt }
+      pub enter_wrong : {e : Wrong} → Parsed t name (Err e) → Entering t name g (Err e)
+      enter_wrong p = record { is = rw (n, first k g o v x) (p.is k (meant g) n); place = tt }
 
   -- the name of a block that is read over
-  module _ (o : ordinary (slice from to t) ≡ true) {x : Reached} (p : Passed t from to to x) {q : ℕ} where
-    pub enter_over : x ≡ R.At q → Entering t from to g (E.At g q)
-    enter_over z =
-        let y = rw z at p in
-        record { is = rw (step-entry (meant g) (slice from to t) o) (y.is (meant g)); place = y.place }
+  module _ (o : ordinary (slice name.from name.to t) ≡ true) where
+    pub enter_over : {q : ℕ} → Passed t name name.to (Ok q) → Entering t name g (Ok (g, q))
+    enter_over p = record { is = rw (step-entry (meant g) (slice name.from name.to t) o) (p.is (meant g)); place = p.place }
 
-    pub enter_over-wrong : x ≡ R.Wrong q → Entering t from to g (E.Wrong q)
-    enter_over-wrong z = record { is = rw (step-entry (meant g) (slice from to t) o) ((rw z at p).is (meant g)); place = tt }
+    pub enter_over-wrong : {e : Wrong} → Passed t name name.to (Err e) → Entering t name g (Err e)
+    enter_over-wrong p = record { is = rw (step-entry (meant g) (slice name.from name.to t) o) (p.is (meant g)); place = tt }
 
 ---- By its name ----------------------------------------------------------------------------------------------------------------
 
-module _ (w : Text) {a : Bool} (e : a ≡ same w (name Cmd)) where
-  pub name-cmd : a ≡ true → NameOf w (N.Endpoint Cmd)
-  name-cmd f = record { is = same_true w (name Cmd) (sym e ∙ f) }
+module _ (w : Text) {a : Bool} (e : a ≡ same w (name_of Cmd)) where
+  pub name-cmd : a ≡ true → w ≡ name_of Cmd
+  name-cmd f = same_true w (name_of Cmd) (sym e ∙ f)
 
-  module _ {b : Bool} (g : b ≡ same w (name Res)) where
-    pub name-res : b ≡ true → NameOf w (N.Endpoint Res)
-    name-res h = record { is = same_true w (name Res) (sym g ∙ h) }
+  module _ {b : Bool} (g : b ≡ same w (name_of Res)) where
+    pub name-res : b ≡ true → w ≡ name_of Res
+    name-res h = same_true w (name_of Res) (sym g ∙ h)
 
-    pub name-other : plain w ≡ true → a ≡ false → b ≡ false → NameOf w N.Other
-    name-other p f h = record { is = to-ordinary w p (sym e ∙ f) (sym g ∙ h) }
-
-module _ (w : Text) {r : Name} (n : NameOf w r) where
-  pub name-is : {k : Side} → r ≡ N.Endpoint k → w ≡ name k
-  name-is e = (rw e at n).is
-
-  pub name-none : r ≡ N.Other → ordinary w ≡ true
-  name-none e = (rw e at n).is
+    pub name-other : plain w ≡ true → a ≡ false → b ≡ false → ordinary w ≡ true
+    name-other p f h = to-ordinary w p (sym e ∙ f) (sym g ∙ h)
 
 ---- Behind /begin --------------------------------------------------------------------------------------------------------------
 
-module _ {t : List ℕ} {q : ℕ} {x : Sign} (s : Signed t q x) where
-  module _ {f : Found} where
-    pub entry-begin : {from to : ℕ} → x ≡ G.Begin from to → Enters t (State.begun f []) q (E.Wrong from)
-    unfolding step
-    entry-begin e = let (n, b) = (rw e at s).is in record { is = turn_word (State.begun f []) n ∙ rw b; place = tt }
+module _ {t : List ℕ} {q : ℕ} {w : Word} (n : NextName t q (Ok w)) where
+  pub entry : {g : Gathered} (r : Result (Gathered × ℕ) Wrong) → Entering t w g r → Enters t (State.begun (meant g) []) q r
+  entry {g} (Ok (h, k)) y =
+      record { is = turn_word (State.begun (meant g) []) n.0 ∙ y.is; place = (omega (arith, n.0.within, y.place), y.place.1) }
+  entry {g} (Err e) y = record { is = turn_word (State.begun (meant g) []) n.0 ∙ y.is; place = tt }
 
-    pub entry-end : {from to : ℕ} → x ≡ G.End from to → Enters t (State.begun f []) q (E.Wrong from)
-    unfolding step
-    entry-end e = let (n, b) = (rw e at s).is in record { is = turn_word (State.begun f []) n ∙ rw b; place = tt }
-
-    pub entry_stop : {p : ℕ} → x ≡ G.Stop p → Enters t (State.begun f []) q (E.Wrong p)
-    entry_stop e = record { is = (rw e at s).is (State.begun f []) (λ n. refl); place = tt }
-
-  module _ {from to : ℕ} (e : x ≡ G.Other from to) where
-    entry-by : {g : Gathered} (r : Entry) → Entering t from to g r → Enters t (State.begun (meant g) []) q r
-    entry-by {g} (E.At h k) y =
-        let n = (rw e at s).is.0 in
-        record { is = turn_word (State.begun (meant g) []) n ∙ y.is; place = (omega (arith, n.within, y.place), y.place.1) }
-    entry-by {g} (E.Wrong p) y = record { is = turn_word (State.begun (meant g) []) (rw e at s).is.0 ∙ y.is; place = tt }
-
-    pub entry_other : {g : Gathered} {r : Entry} → Entering t from to g r → Enters t (State.begun (meant g) []) q r
-    entry_other {r = r} y = entry-by r y
-
-    pub entry_passable : {ps : List ℕ} → Enterable t q ps → Passable t from to to ps
-    entry_passable h =
-        let n = (rw e at s).is.0 in
-        record {
-          room = h.room;
-          short = h.short;
-          name = omega (arith, n.within);
-          behind = omega arith;
-          inside = n.within.2;
-          deep = omega (arith, h.behind, n.within);
-        }
-
-    pub entry-plain : plain (slice from to t) ≡ true
-    entry-plain = (rw e at s).is.1
-
----- For search -----------------------------------------------------------------------------------------------------------------
-
-pub ruleset parses = (rules, parse_wrong, parse_passable, parse_over, parse_over-wrong)
-
-pub ruleset enters = (rules, enter_second, enter_first, enter_wrong, enter_over, enter_over-wrong)
-
-pub ruleset entry_names = (rules, name-cmd, name-res, name-other, name-is, name-none)
-
-pub ruleset entering = (rules, entry-begin, entry-end, entry_stop, entry_other, entry_passable, entry-plain)
+  pub entry_passable : Enterable t q → Passable t w w.to
+  entry_passable h =
+      record {
+        short = h.short;
+        order = omega (arith, n.0.within);
+        behind = omega arith;
+        inside = n.0.within.2;
+        deep = omega (arith, h.behind, n.0.within);
+      }

@@ -1,175 +1,124 @@
 // An entry that opens a block: an endpoint, or a block that is read over.
 #![tactic(auto)]
 
-ghost use Rattle.std.specs.Prelude.{◌≡◌, true, [], ◌≤◌, length};
+ghost use Rattle.std.specs.Prelude.{◌≡◌, true, []};
 ghost use Rattle.std.proofs.Math.Seq.{slice};
-ghost use Rattle.keywords.specs.Tables.{plain, ordinary, name};
+ghost use Rattle.keywords.specs.Tables.{plain, name as name_of};
 ghost use Rattle.description.specs.Reading.{State, has, put};
 ghost use Rattle.passing.specs.Passing.{Passable};
-ghost use Rattle.entries.specs.Entering.{slot_of as holds, meant, NameOf, Parsed, Entering, Enterable, Enters};
+ghost use Rattle.entries.specs.Entering.{maybe, meant, Sided, Parsed, Entering, Enterable, Enters};
 
-use description::{Endpoint, Reached};
-use expecting::{Series, read_series};
+use description::Endpoint;
+use expecting::{PARAMETERS, read_series};
 use keywords::Side;
-use passing::{Sign, next_sign, pass_over};
-use words::same;
-
-// What a name is that stands behind /begin.
-#[derive(Clone, Copy)]
-enum Name {
-    Endpoint(Side),
-    Other,
-}
-
-// An endpoint that was found, or none so far.
-#[derive(Clone, Copy)]
-pub enum Slot {
-    Empty,
-    Holds(Endpoint),
-}
+use passing::{Names, next_name, pass_over};
+use words::{Word, Wrong, same};
 
 // What was found so far: the header, and endpoints.
-#[derive(Clone, Copy)]
+#[derive(Clone, Copy, Debug, PartialEq, Eq)]
 pub struct Gathered {
     pub header: u32,
-    pub cmd: Slot,
-    pub res: Slot,
+    pub cmd: Option<Endpoint>,
+    pub res: Option<Endpoint>,
 }
 
-// An endpoint, and the place behind its block; or the place that is wrong.
-#[derive(Clone, Copy)]
-enum Parsing {
-    Endpoint(Endpoint, usize),
-    Wrong(usize),
-}
-
-// What was found behind an entry, and the place there; or the place that is wrong.
-#[derive(Clone, Copy)]
-pub enum Entry {
-    At(Gathered, usize),
-    Wrong(usize),
-}
-
-fn found(side: Side, g: Gathered) -> Slot
-    ensures { holds result ≡ has side (meant g) }
-{
-    match side {
-        Side::Cmd => g.cmd,
-        Side::Res => g.res,
-    }
-}
-
-fn with(side: Side, e: Endpoint, g: Gathered) -> Gathered
-    ensures { meant result ≡ put side e (meant g) }
-{
-    match side {
-        Side::Cmd => {
-            let res = g.res;
-            Gathered {
-                header: g.header,
-                cmd: Slot::Holds(e),
-                res,
-            }
+impl Gathered {
+    fn found(self, side: Side) -> Option<Endpoint>
+        ensures { maybe result ≡ has side (meant self) }
+    {
+        match side {
+            Side::Cmd => self.cmd,
+            Side::Res => self.res,
         }
-        Side::Res => {
-            let cmd = g.cmd;
-            Gathered {
-                header: g.header,
-                cmd,
-                res: Slot::Holds(e),
-            }
+    }
+
+    fn with(self, side: Side, e: Endpoint) -> Gathered
+        ensures { meant result ≡ put side e (meant self) }
+    {
+        match side {
+            Side::Cmd => Gathered {
+                cmd: Some(e),
+                ..self
+            },
+            Side::Res => Gathered {
+                res: Some(e),
+                ..self
+            },
         }
     }
 }
 
-// The block of an endpoint, whose name stands from a place to a place.
-fn endpoint(t: &[u8], from: usize, to: usize, names: &mut [u16]) -> Parsing
-    requires { Passable t.now from to to names.old }
-    ensures { Parsed t.now from to result }
+// The endpoint whose block has this name.
+fn side_of(name: &[u8]) -> Option<Side>
+    requires { plain name.now ≡ true }
+    ensures { Sided name.now result }
 {
-    let mut values = [0u32; 6];
-    match read_series(Series::Parameters, t, to, &mut values) {
-        Reached::At(k) => {
-            let e = Endpoint {
-                datapacket: values[2],
-                packing: values[4],
-                align: values[5],
-            };
-            match pass_over(t, from, to, k, names) {
-                Reached::At(q) => Parsing::Endpoint(e, q),
-                Reached::Wrong(p) => Parsing::Wrong(p),
-            }
-        }
-        Reached::Wrong(p) => Parsing::Wrong(p),
+    if same(name, b"OUT_EP_CMD_STIM") {
+        return Some(Side::Cmd);
     }
+    if same(name, b"IN_EP_RESERR_DAQ_EVSERV") {
+        return Some(Side::Res);
+    }
+    None
 }
 
-// An endpoint, which was not found before.
+// The endpoint of a block with this name, and the place behind the block.
+fn endpoint(t: &[u8], name: Word, names: &mut Names) -> Result<(Endpoint, usize), Wrong>
+    requires { Passable t.now name name.to }
+    ensures { Parsed t.now name result }
+{
+    let (values, k) = read_series(&PARAMETERS, t, name.to)?;
+    let behind = pass_over(t, name, k, names)?;
+    let e = Endpoint {
+        datapacket: values[2],
+        packing: values[4],
+        align: values[5],
+    };
+    Ok((e, behind))
+}
+
+// An endpoint, which was not found before: what is found with it, and the place behind its block.
 fn enter_endpoint(
     side: Side,
     t: &[u8],
-    from: usize,
-    to: usize,
+    name: Word,
     g: Gathered,
-    names: &mut [u16],
-) -> Entry
-    requires { Passable t.now from to to names.old × (slice from to t.now ≡ name side) }
-    ensures { Entering t.now from to g result }
+    names: &mut Names,
+) -> Result<(Gathered, usize), Wrong>
+    requires { Passable t.now name name.to × (slice name.from name.to t.now ≡ name_of side) }
+    ensures { Entering t.now name g result }
 {
-    match found(side, g) {
-        Slot::Holds(_) => Entry::Wrong(from),
-        Slot::Empty => match endpoint(t, from, to, names) {
-            Parsing::Endpoint(e, k) => Entry::At(with(side, e, g), k),
-            Parsing::Wrong(p) => Entry::Wrong(p),
-        },
+    if g.found(side).is_some() {
+        return Err(Wrong { place: name.from });
+    }
+    let (e, behind) = endpoint(t, name, names)?;
+    Ok((g.with(side, e), behind))
+}
+
+// The block of a name behind /begin: an endpoint's, or one that is read over.
+fn enter(t: &[u8], name: Word, g: Gathered, names: &mut Names) -> Result<(Gathered, usize), Wrong>
+    requires { Passable t.now name name.to × (plain (slice name.from name.to t.now) ≡ true) }
+    ensures { Entering t.now name g result }
+{
+    match side_of(name.bytes(t)) {
+        Some(side) => enter_endpoint(side, t, name, g, names),
+        None => {
+            let behind = pass_over(t, name, name.to, names)?;
+            Ok((g, behind))
+        }
     }
 }
 
-// Whether a name is an endpoint's.
-fn name_of(t: &[u8], from: usize, to: usize) -> Name
-    requires { (from ≤ to) × (to ≤ length t.now) × (plain (slice from to t.now) ≡ true) }
-    ensures { NameOf (slice from to t.now) result }
-{
-    if same(t, from, to, b"OUT_EP_CMD_STIM") {
-        return Name::Endpoint(Side::Cmd);
-    }
-    if same(t, from, to, b"IN_EP_RESERR_DAQ_EVSERV") {
-        return Name::Endpoint(Side::Res);
-    }
-    Name::Other
-}
-
-// A block that is read over.
-fn enter_other(t: &[u8], from: usize, to: usize, g: Gathered, names: &mut [u16]) -> Entry
-    requires { Passable t.now from to to names.old × (ordinary (slice from to t.now) ≡ true) }
-    ensures { Entering t.now from to g result }
-{
-    match pass_over(t, from, to, to, names) {
-        Reached::At(k) => Entry::At(g, k),
-        Reached::Wrong(p) => Entry::Wrong(p),
-    }
-}
-
-// The block of a name behind /begin.
-fn enter(t: &[u8], from: usize, to: usize, g: Gathered, names: &mut [u16]) -> Entry
-    requires { Passable t.now from to to names.old × (plain (slice from to t.now) ≡ true) }
-    ensures { Entering t.now from to g result }
-{
-    match name_of(t, from, to) {
-        Name::Endpoint(side) => enter_endpoint(side, t, from, to, g, names),
-        Name::Other => enter_other(t, from, to, g, names),
-    }
-}
-
-// The block that opens with the /begin before place q.
-pub fn read_entry(t: &[u8], q: usize, g: Gathered, names: &mut [u16]) -> Entry
-    requires { Enterable t.now q names.old }
+// The block that opens with the /begin before place q: what is found behind it, and the place there.
+pub fn read_entry(
+    t: &[u8],
+    q: usize,
+    g: Gathered,
+    names: &mut Names,
+) -> Result<(Gathered, usize), Wrong>
+    requires { Enterable t.now q }
     ensures { Enters t.now (State.begun (meant g) []) q result }
 {
-    match next_sign(t, q) {
-        Sign::Begin(from, _) => Entry::Wrong(from),
-        Sign::End(from, _) => Entry::Wrong(from),
-        Sign::Other(from, to) => enter(t, from, to, g, names),
-        Sign::Stop(p) => Entry::Wrong(p),
-    }
+    let name = next_name(t, q)?;
+    enter(t, name, g, names)
 }

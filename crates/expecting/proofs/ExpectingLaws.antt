@@ -7,45 +7,50 @@ use mathlib.Core.Option.{Option, none, some}
 use mathlib.Core.List.{List, ◌∷◌}
 use lib.ListN.{length, drop, get_or, set, length-set, drop_of_length-le}
 use lib.Seq.{slice, drop-cons, take-suc-set, take_all}
-use Rattle.finding.specs.declared.Next.TheVariants as N
+use Rattle.std.specs.Prelude.{Result, Ok, Err, Some}
+use Rattle.std.specs.Option.{ok_or}
+use Rattle.words.specs.declared.Word.{Word}
+use Rattle.words.specs.declared.Wrong.{Wrong}
 use Rattle.finding.specs.Finding.{NextWord}
 use Rattle.keywords.specs.declared.Kind.{Kind}
-use Rattle.keywords.specs.declared.Meant.TheVariants as M
 use Rattle.keywords.specs.Tables.{Text}
 use Rattle.keywords.specs.Saying.{meaning, told}
-use Rattle.description.specs.declared.Reached.TheVariants as R
 use Rattle.description.specs.Reading.{reading}
-use Rattle.description.proofs.TurnLaws.{turn_on, turn_wrong, turn_end, turn_cut}
-use Rattle.expecting.specs.declared.Expected.TheVariants as E
+use Rattle.description.proofs.TurnLaws.{turn_on, turn_wrong}
+use Rattle.passing.specs.Passing.{Stopping}
 use Rattle.expecting.specs.Expecting.{Expects, Led, Midway}
 
 ---- One word -------------------------------------------------------------------------------------------------------------------
 
-says_some : (o : Option ℕ) {n : ℕ} → M.Value n ≡ told o → o ≡ some n
-says_some none e = let z : ◌≡◌ {A = ℕ} 0 1 = cc in absurd (omega arith)
-says_some (some m) e = cc
+says_some : (o : Option ℕ) (e : Wrong) {n : ℕ} → ok_or (told o) e ≡ Ok n → o ≡ some n
+says_some none e h = cc
+says_some (some m) e h = cc
 
-says_none : (o : Option ℕ) → M.Nothing ≡ told o → o ≡ none
-says_none none e = refl
-says_none (some m) e = let z : ◌≡◌ {A = ℕ} 0 1 = cc in absurd (omega arith)
+says_none : (o : Option ℕ) (e : Wrong) {d : Wrong} → ok_or (told o) e ≡ Err d → (o ≡ none) × (e ≡ d)
+says_none none e h = (refl, cc)
+says_none (some m) e h = cc
 
-module _ {kind : Text → Option ℕ} {t : List ℕ} {q : ℕ} where
-  module _ {from to : ℕ} (n : NextWord t q (N.Word from to)) where
-    pub expect_word : {v : ℕ} → M.Value v ≡ told (kind (slice from to t)) → Expects kind t q (E.Word v to)
-    expect_word e =
-        let k = says_some (kind (slice from to t)) e in
-        record { is = λ s then a. turn_on s n (a.word (slice from to t) ∙ rw k); place = (omega (arith, n.within), n.within.2) }
+-- what the code makes of a word of the kind
+abbrev said : (Text → Option ℕ) → List ℕ → Word → Result ℕ Wrong
+said kind t w = ok_or (told (kind (slice w.from w.to t))) (record { place = w.from })
 
-    pub expect_other : M.Nothing ≡ told (kind (slice from to t)) → Expects kind t q (E.Wrong from)
-    expect_other e =
-        let k = says_none (kind (slice from to t)) e in
-        record { is = λ s then a. turn_wrong s n (a.word (slice from to t) ∙ rw k); place = tt }
+module _ (kind : Text → Option ℕ) {t : List ℕ} {q : ℕ} where
+  module _ {w : Word} (n : NextWord t q (Ok (Some w))) where
+    pub expect_word : {v : ℕ} → said kind t w ≡ Ok v → Expects kind t q (Ok (v, w.to))
+    expect_word h =
+        let k = says_some (kind (slice w.from w.to t)) (record { place = w.from }) h in
+        record {
+          is = λ s then a. turn_on s n (a.word (slice w.from w.to t) ∙ rw k);
+          place = (omega (arith, n.within), n.within.2);
+        }
 
-  pub expect_end : NextWord t q N.End → Expects kind t q (E.Wrong (length t))
-  expect_end n = record { is = λ s then a. turn_end s n ∙ a.early (length t); place = tt }
+    pub expect_other : {d : Wrong} → said kind t w ≡ Err d → Expects kind t q (Err d)
+    expect_other h =
+        let k = says_none (kind (slice w.from w.to t)) (record { place = w.from }) h in
+        record { is = λ s then a. turn_wrong s n (a.word (slice w.from w.to t) ∙ rw k.0) ∙ ap Err k.1; place = tt }
 
-  pub expect_cut : NextWord t q N.Cut → Expects kind t q (E.Wrong (length t))
-  expect_cut n = record { is = λ s then a. turn_cut s n; place = tt }
+  pub expect_stop : {e : Wrong} → Stopping t q e → Expects kind t q (Err e)
+  expect_stop h = record { is = λ s then a. h s a.early; place = tt }
 
 ---- A series -------------------------------------------------------------------------------------------------------------------
 
@@ -65,7 +70,7 @@ module _ {ks : List Kind} {t : List ℕ} {q : ℕ} where
     next-kind : drop i ks ≡ get_or ks i d ∷ drop (suc i) ks
     next-kind = drop-cons ks i d (omega (arith, m.all))
 
-    pub series_on : {v j : ℕ} → Expects (meaning (get_or ks i d)) t k (E.Word v j) → Midway ks t q (set vs i v) (i + 1) j
+    pub series_on : {v j : ℕ} → Expects (meaning (get_or ks i d)) t k (Ok (v, j)) → Midway ks t q (set vs i v) (i + 1) j
     series_on {v} {j} x =
         record {
           all = length-set vs i v ∙ m.all;
@@ -82,7 +87,7 @@ module _ {ks : List Kind} {t : List ℕ} {q : ℕ} where
               };
         }
 
-    pub series_wrong : {p : ℕ} → Expects (meaning (get_or ks i d)) t k (E.Wrong p) → Led ks t q vs (R.Wrong p)
+    pub series_wrong : {e : Wrong} → Expects (meaning (get_or ks i d)) t k (Err e) → Led ks t q (Err e)
     series_wrong x =
         record {
           is = λ s then l.
@@ -92,7 +97,7 @@ module _ {ks : List Kind} {t : List ℕ} {q : ℕ} where
           place = tt;
         }
 
-  pub series_end : {vs : List ℕ} {i k : ℕ} → Midway ks t q vs i k → length vs ≤ i → Led ks t q vs (R.At k)
+  pub series_end : {vs : List ℕ} {i k : ℕ} → Midway ks t q vs i k → length vs ≤ i → Led ks t q (Ok (vs, k))
   series_end {vs} {i} {k} m h =
       record {
         is = λ s then l.

@@ -1,20 +1,13 @@
 -- What the functions ask and tell that read words which must stand: what the text comes to from any state that asks for such words.
-use Rattle.std.specs.Prelude.{ℕ, ◌<◌, ◌≤◌, ◌≡◌, List, [], ◌∷◌, ◌++◌, length, take, drop}
+use Rattle.std.specs.Prelude.{ℕ, ◌<◌, ◌≤◌, ◌≡◌, List, [], ◌∷◌, ◌++◌, length, take, drop, Result, Ok, Err}
 use Rattle.std.proofs.Math.Option.{Option}
+use Rattle.words.specs.declared.Wrong.{Wrong}
 use Rattle.keywords.specs.declared.Kind.{Kind}
 use Rattle.keywords.specs.declared.Kind.TheVariants as K
 use Rattle.keywords.specs.Tables.{Text}
 use Rattle.keywords.specs.Saying.{meaning}
-use Rattle.description.specs.declared.Outcome.{Outcome}
-use Rattle.description.specs.declared.Outcome.TheVariants as O
-use Rattle.description.specs.declared.Reached.{Reached}
-use Rattle.description.specs.declared.Reached.TheVariants as R
-use Rattle.description.specs.Reading.{State, given, step, reading}
-use Rattle.passing.specs.Passing.{Open, ReachedTo}
-use Rattle.expecting.specs.declared.Expected.{Expected}
-use Rattle.expecting.specs.declared.Expected.TheVariants as E
-use Rattle.expecting.specs.declared.Series.{Series}
-use Rattle.expecting.specs.declared.Series.TheVariants.{Opening, Parameters}
+use Rattle.description.specs.Reading.{Outcome, State, given, step, reading}
+use Rattle.passing.specs.Passing.{Open}
 
 ---- One word -------------------------------------------------------------------------------------------------------------------
 
@@ -23,15 +16,16 @@ pub record Asks (s : State) (kind : Text → Option ℕ) (then : ℕ → State) 
   pub word : (w : Text) → step s w ≡ given (kind w) then
   pub early : Open s
 
-abbrev pub got : List ℕ → (ℕ → State) → Expected → Outcome
-got t then (E.Word n k) = reading t k (then n)
-got t then (E.Wrong p) = O.Wrong p
+-- what a word says, and the place behind it
+abbrev pub got : List ℕ → (ℕ → State) → Result (ℕ × ℕ) Wrong → Outcome
+got t then (Ok (n, k)) = reading t k (then n)
+got t then (Err e) = Err e
 
-abbrev pub GotTo : List ℕ → ℕ → Expected → Type 0
-GotTo t q (E.Word n k) = (q < k) × (k ≤ length t)
-GotTo t q (E.Wrong p) = Unit {0}
+abbrev pub GotTo : List ℕ → ℕ → Result (ℕ × ℕ) Wrong → Type 0
+GotTo t q (Ok (n, k)) = (q < k) × (k ≤ length t)
+GotTo t q (Err e) = Unit {0}
 
-pub record Expects (kind : Text → Option ℕ) (t : List ℕ) (q : ℕ) (r : Expected) : Type 0 where
+pub record Expects (kind : Text → Option ℕ) (t : List ℕ) (q : ℕ) (r : Result (ℕ × ℕ) Wrong) : Type 0 where
   pub is : (s : State) (then : ℕ → State) → Asks s kind then → reading t q s ≡ got t then r
   pub place : GotTo t q r
 
@@ -43,22 +37,23 @@ openings = K.Begin ∷ K.Block ∷ K.Number ∷ K.Number ∷ K.Number ∷ K.Numb
 abbrev pub parameters : List Kind
 parameters = K.Number ∷ K.Transfer ∷ K.Number ∷ K.Number ∷ K.Packing ∷ K.Alignment ∷ []
 
-abbrev pub kinds : Series → List Kind
-kinds Opening = openings
-kinds Parameters = parameters
-
 -- state s, behind words that say vs, asks for words of these kinds and goes on by all that they say
 abbrev pub Leads : List Kind → State → List ℕ → (List ℕ → State) → Type 0
 Leads [] s vs then = s ≡ then vs
 Leads (k ∷ ks) s vs then = (u : ℕ → State) × Asks s (meaning k) u × ((n : ℕ) → Leads ks (u n) (vs ++ (n ∷ [])) then)
 
-abbrev pub led : List ℕ → (List ℕ → State) → List ℕ → Reached → Outcome
-led t then vs (R.At k) = reading t k (then vs)
-led t then vs (R.Wrong p) = O.Wrong p
+-- what the words say, and the place behind them
+abbrev pub led : List ℕ → (List ℕ → State) → Result (List ℕ × ℕ) Wrong → Outcome
+led t then (Ok (vs, k)) = reading t k (then vs)
+led t then (Err e) = Err e
 
-pub record Led (ks : List Kind) (t : List ℕ) (q : ℕ) (vs : List ℕ) (r : Reached) : Type 0 where
-  pub is : (s : State) (then : List ℕ → State) → Leads ks s [] then → reading t q s ≡ led t then vs r
-  pub place : ReachedTo t q r
+abbrev pub LedTo : List ℕ → ℕ → Result (List ℕ × ℕ) Wrong → Type 0
+LedTo t q (Ok (vs, k)) = (q ≤ k) × (k ≤ length t)
+LedTo t q (Err e) = Unit {0}
+
+pub record Led (ks : List Kind) (t : List ℕ) (q : ℕ) (r : Result (List ℕ × ℕ) Wrong) : Type 0 where
+  pub is : (s : State) (then : List ℕ → State) → Leads ks s [] then → reading t q s ≡ led t then r
+  pub place : LedTo t q r
 
 -- the first i words are read, and the text is at state u, place k
 pub record At (ks : List Kind) (t : List ℕ) (q : ℕ) (vs : List ℕ) (i k : ℕ) (s : State) (then : List ℕ → State) : Type 0 where

@@ -1,45 +1,16 @@
 // Words that must stand at a place: one of a kind, and a series of them.
 #![tactic(auto)]
 
-ghost use Rattle.std.specs.Prelude.{◌≡◌, ◌<◌, ◌≤◌, length, get_or};
+ghost use Rattle.std.specs.Prelude.{◌≡◌, ◌≤◌, length};
 ghost use Rattle.keywords.specs.Saying.{meaning};
-ghost use Rattle.expecting.specs.Expecting.{Expects, kinds, Led};
+ghost use Rattle.expecting.specs.Expecting.{Expects, Led};
 
-use description::Reached;
-use finding::{Next, next_word};
-use keywords::{Kind, Meant, says};
+use keywords::{Kind, says};
+use passing::needed_word;
+use words::Wrong;
 
-// What a word says, and the place behind it; or the place that is wrong.
-#[derive(Clone, Copy)]
-pub enum Expected {
-    Word(u32, usize),
-    Wrong(usize),
-}
-
-// The words that open the block; those behind an endpoint's name.
-#[derive(Clone, Copy)]
-pub enum Series {
-    Opening,
-    Parameters,
-}
-
-// A word of a kind, from place q on.
-pub fn expect(kind: Kind, t: &[u8], q: usize) -> Expected
-    requires { q ≤ length t.now }
-    ensures { Expects (meaning kind) t.now q result }
-{
-    match next_word(t, q) {
-        Next::Word(from, to) => match says(kind, t, from, to) {
-            Meant::Value(n) => Expected::Word(n, to),
-            Meant::Nothing => Expected::Wrong(from),
-        },
-        Next::End => Expected::Wrong(t.len()),
-        Next::Cut => Expected::Wrong(t.len()),
-    }
-}
-
-// The kinds of their words.
-const OPENINGS: [Kind; 7] = [
+// The kinds of the words that open the block.
+pub const OPENINGS: [Kind; 7] = [
     Kind::Begin,
     Kind::Block,
     Kind::Number,
@@ -49,7 +20,8 @@ const OPENINGS: [Kind; 7] = [
     Kind::Header,
 ];
 
-const PARAMETERS: [Kind; 6] = [
+// .. and of those behind an endpoint's name.
+pub const PARAMETERS: [Kind; 6] = [
     Kind::Number,
     Kind::Transfer,
     Kind::Number,
@@ -58,33 +30,31 @@ const PARAMETERS: [Kind; 6] = [
     Kind::Alignment,
 ];
 
-// The kind of a series' word.
-fn kind_at(s: Series, i: usize) -> Kind
-    requires { i < length (kinds s) }
-    ensures { result ≡ get_or (kinds s) i Kind.Number }
+// What a word of a kind says, from place q on, and the place behind it.
+pub fn expect(kind: Kind, t: &[u8], q: usize) -> Result<(u32, usize), Wrong>
+    requires { q ≤ length t.now }
+    ensures { Expects (meaning kind) t.now q result }
 {
-    match s {
-        Series::Opening => OPENINGS[i],
-        Series::Parameters => PARAMETERS[i],
-    }
+    let word = needed_word(t, q)?;
+    let said = says(kind, word.bytes(t)).ok_or(Wrong { place: word.from })?;
+    Ok((said, word.to))
 }
 
-// A series of words from place q on, and what each says.
-pub fn read_series(s: Series, t: &[u8], q: usize, values: &mut [u32]) -> Reached
-    requires { (q ≤ length t.now) × (length values.old ≡ length (kinds s)) }
-    ensures { Led (kinds s) t.now q values.new result }
+// What each word of a series says, from place q on, and the place behind them.
+pub fn read_series<const N: usize>(
+    kinds: &[Kind; N],
+    t: &[u8],
+    q: usize,
+) -> Result<([u32; N], usize), Wrong>
+    requires { q ≤ length t.now }
+    ensures { Led kinds.now t.now q result }
 {
+    let mut values = [0; N];
     let mut k = q;
-    let mut i: usize = 0;
-    while i < values.len() {
-        match expect(kind_at(s, i), t, k) {
-            Expected::Word(n, to) => {
-                values[i] = n;
-                k = to;
-                i += 1;
-            }
-            Expected::Wrong(p) => return Reached::Wrong(p),
-        }
+    for (i, kind) in kinds.iter().enumerate() {
+        let (said, behind) = expect(*kind, t, k)?;
+        values[i] = said;
+        k = behind;
     }
-    Reached::At(k)
+    Ok((values, k))
 }

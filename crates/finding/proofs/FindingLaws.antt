@@ -13,12 +13,11 @@ use lib.Dec.{eqb, ltb}
 use borrow.Author.Tests.{lt-ltb, le-ltb, eqb-true, not-false}
 use Rattle.words.specs.declared.Start.{Start}
 use Rattle.words.specs.declared.Start.TheVariants as S
-use Rattle.finding.specs.declared.Next.{Next}
-use Rattle.finding.specs.declared.Next.TheVariants as N
+use Rattle.std.specs.Prelude.{Some, None, Ok, Err}
 use Rattle.words.specs.Words.{is_blank, start, ends, ends_word, ends_line}
 use Rattle.words.specs.Parting.{Piece, find, up_to, piece}
 use Rattle.runs.specs.Runs.{other, Run}
-use Rattle.finding.specs.Finding.{ends_comment, ends_string, Sought, Passing, NextWord}
+use Rattle.finding.specs.Finding.{ends_comment, ends_string, Sought, Passing, Next, NextWord}
 use Rattle.words.proofs.PieceLaws.{Started, started, Seen, see}
 use Rattle.words.proofs.PartLaws.{word_some, parting_eq}
 use Rattle.runs.proofs.RunLaws.{run_keeps}
@@ -100,6 +99,12 @@ room t k e = rw (e, ← length-drop k t) (least-length (started (drop k t)))
 
 ---- The next word --------------------------------------------------------------------------------------------------------------
 
+abbrev pub found : ℕ → ℕ → Next
+found from to = Ok (Some (record { from = from; to = to }))
+
+abbrev pub cut : ℕ → Next
+cut place = Err (record { place = place })
+
 gap_length : {u : List ℕ} {n : ℕ} → Seen u (Piece.passed n) → n ≤ length u
 gap_length (Seen.passed {s = s} {t = t} g e) = omega (arith, length-append s t)
 
@@ -125,7 +130,7 @@ module _ {t : List ℕ} {q k : ℕ} (g : Passing t q k) where
       }
 
   -- a word up to place r
-  pass-word : {r : ℕ} → k ≤ r → piece (drop k t) ≡ Piece.taken (r - k) → NextWord t q (N.Word k r)
+  pass-word : {r : ℕ} → k ≤ r → piece (drop k t) ≡ Piece.taken (r - k) → NextWord t q (found k r)
   pass-word {r} h e =
       let (a, b) = word-length (rw e at (see (drop k t))) in
       let n : k + (r - k) ≡ r = omega arith in
@@ -136,15 +141,15 @@ module _ {t : List ℕ} {q k : ℕ} (g : Passing t q k) where
         within = (g.from, omega arith, omega (arith, length-drop k t, g.to));
       }
 
-  pass-cut : piece (drop k t) ≡ Piece.unclosed → NextWord t q N.Cut
-  pass-cut e = record { is = g.is ∙ parting_eq k (drop k t) ∙ rw e; within = tt }
+  pass-cut : piece (drop k t) ≡ Piece.unclosed → NextWord t q (cut (length t))
+  pass-cut e = record { is = g.is ∙ parting_eq k (drop k t) ∙ rw e; within = refl }
 
   pub pass-blank : {b : Bool} → k < length t → b ≡ is_blank (get_or t k 0) → b ≡ true → Passing t q (k + 1)
   pass-blank h e f = pass-gap (omega arith) (piece-blank t k (start-blank t k h e f))
 
   -- by what starts at place k
   module _ {x : Start} (w : x ≡ start (drop k t)) where
-    pub pass-end : x ≡ S.Nothing → NextWord t q N.End
+    pub pass-end : x ≡ S.Nothing → NextWord t q (Ok None)
     pass-end e = record { is = g.is ∙ parting_eq k (drop k t) ∙ rw (piece-end t k (sym e ∙ w)); within = tt }
 
     module _ {r : ℕ} where
@@ -154,19 +159,19 @@ module _ {t : List ℕ} {q k : ℕ} (g : Passing t q k) where
       pub pass-comment : x ≡ S.Comment → Sought ends_comment t (k + 2) r → r < length t → Passing t q (r + 2)
       pass-comment e s h = pass-gap (omega (arith, s.from)) (piece-comment t k (sym e ∙ w) s ∙ rw (lt-ltb r (length t) h))
 
-      pub cut-comment : x ≡ S.Comment → Sought ends_comment t (k + 2) r → length t ≤ r → NextWord t q N.Cut
+      pub cut-comment : x ≡ S.Comment → Sought ends_comment t (k + 2) r → length t ≤ r → NextWord t q (cut (length t))
       cut-comment e s h = pass-cut (piece-comment t k (sym e ∙ w) s ∙ rw (le-ltb r (length t) h))
 
       pub pass-line : x ≡ S.Line → Sought ends_line t (k + 2) r → Passing t q r
       pass-line e s = pass-gap (omega (arith, s.from)) (piece-line t k (sym e ∙ w) s)
 
-      pub pass-string : x ≡ S.Quote → Sought ends_string t (k + 1) r → r < length t → NextWord t q (N.Word k (r + 1))
+      pub pass-string : x ≡ S.Quote → Sought ends_string t (k + 1) r → r < length t → NextWord t q (found k (r + 1))
       pass-string e s h = pass-word (omega (arith, s.from)) (piece-string t k (sym e ∙ w) s ∙ rw (lt-ltb r (length t) h))
 
-      pub cut-string : x ≡ S.Quote → Sought ends_string t (k + 1) r → length t ≤ r → NextWord t q N.Cut
+      pub cut-string : x ≡ S.Quote → Sought ends_string t (k + 1) r → length t ≤ r → NextWord t q (cut (length t))
       cut-string e s h = pass-cut (piece-string t k (sym e ∙ w) s ∙ rw (le-ltb r (length t) h))
 
-      pub pass-other : x ≡ S.Other → Sought ends_word t (k + 1) r → NextWord t q (N.Word k r)
+      pub pass-other : x ≡ S.Other → Sought ends_word t (k + 1) r → NextWord t q (found k r)
       pass-other e s = pass-word (omega (arith, s.from)) (piece-other t k (sym e ∙ w) (omega (arith, room t k (sym e ∙ w))) s)
 
 -- a piece that starts has its bytes

@@ -1,9 +1,11 @@
 -- What the functions tell that find words.
 use Rattle.std.specs.Prelude.{ℕ, ◌+◌, ◌-◌, ◌<◌, ◌≤◌, ◌≡◌, Bool, true, false, cond, ◌||◌, List, [], ◌∷◌, length, drop, ltb}
+use Rattle.std.specs.Prelude.{Some, None, Result, Ok, Err}
 use Rattle.std.proofs.Math.Option.{Option, none, some}
 use Rattle.std.proofs.Math.Seq.{slice}
-use Rattle.finding.specs.declared.Next.{Next}
-use Rattle.finding.specs.declared.Next.TheVariants as N
+use Rattle.std.specs.declared.option.Option as O
+use Rattle.words.specs.declared.Word.{Word}
+use Rattle.words.specs.declared.Wrong.{Wrong}
 use Rattle.words.specs.declared.Start.{Start}
 use Rattle.words.specs.declared.Start.TheVariants.{Comment, Line, Other}
 use Rattle.words.specs.Words.{ascii, begins}
@@ -43,18 +45,22 @@ pub record Passing (t : List ℕ) (q k : ℕ) : Type 0 where
   pub to : k ≤ length t
   pub is : parting q (drop q t) ≡ parting k (drop k t)
 
+-- what a search tells: the next word, none at the text's end, or the place where what is not closed is cut
+abbrev pub Next : Type 0
+Next = Result (O.Option Word) Wrong
+
 -- what is found says of the parting from a place on: a word and what follows it, or the text's end
 abbrev pub told : List ℕ → Next → Parted
-told t (N.Word from to) =
-    let r = parting to (drop to t) in
-    record { words = record { at = from; text = slice from to t } ∷ r.words; closed = r.closed }
-told t N.End = record { words = []; closed = true }
-told t N.Cut = record { words = []; closed = false }
+told t (Ok (Some w)) =
+    let r = parting w.to (drop w.to t) in
+    record { words = record { at = w.from; text = slice w.from w.to t } ∷ r.words; closed = r.closed }
+told t (Ok None) = record { words = []; closed = true }
+told t (Err e) = record { words = []; closed = false }
 
 abbrev pub Within : ℕ → ℕ → Next → Type 0
-Within n q (N.Word from to) = (q ≤ from) × (from < to) × (to ≤ n)
-Within n q N.End = Unit {0}
-Within n q N.Cut = Unit {0}
+Within n q (Ok (Some w)) = (q ≤ w.from) × (w.from < w.to) × (w.to ≤ n)
+Within n q (Ok None) = Unit {0}
+Within n q (Err e) = e.place ≡ n
 
 pub record NextWord (t : List ℕ) (q : ℕ) (r : Next) : Type 0 where
   pub is : parting q (drop q t) ≡ told t r

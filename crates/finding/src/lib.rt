@@ -5,15 +5,7 @@ ghost use Rattle.std.specs.Prelude.{◌≡◌, ◌<◌, ◌≤◌, ◌+◌, leng
 ghost use Rattle.words.specs.Words.{is_blank, start as start_of, ends, ends_word, ends_line};
 ghost use Rattle.finding.specs.Finding.{slash_by, ends_comment, ends_string, Sought, Passing, NextWord};
 
-use words::Start;
-
-// The next word, from a place to a place; the text's end; an end inside what is not closed.
-#[derive(Clone, Copy)]
-pub enum Next {
-    Word(usize, usize),
-    End,
-    Cut,
-}
+use words::{Start, Word, Wrong};
 
 fn blank(b: u8) -> bool
     ensures { result ≡ is_blank b }
@@ -159,8 +151,8 @@ fn comment_end(t: &[u8], q: usize) -> usize
     k
 }
 
-// The next word from place q on.
-pub fn next_word(t: &[u8], q: usize) -> Next
+// The next word from place q on; none at the text's end. A text that ends inside what is not closed is wrong there.
+pub fn next_word(t: &[u8], q: usize) -> Result<Option<Word>, Wrong>
     requires { q ≤ length t.now }
     ensures { NextWord t.now q result }
 {
@@ -169,7 +161,7 @@ pub fn next_word(t: &[u8], q: usize) -> Next
         let s = starting(t, k);
         match s {
             Start::Nothing => {
-                return Next::End;
+                return Ok(None);
             }
             Start::Blank => {
                 k = blanks_end(t, k);
@@ -177,7 +169,7 @@ pub fn next_word(t: &[u8], q: usize) -> Next
             Start::Comment => {
                 let r = comment_end(t, k);
                 if r >= t.len() {
-                    return Next::Cut;
+                    return Err(Wrong { place: t.len() });
                 }
                 k = r + 2;
             }
@@ -187,12 +179,15 @@ pub fn next_word(t: &[u8], q: usize) -> Next
             Start::Quote => {
                 let r = string_end(t, k);
                 if r < t.len() {
-                    return Next::Word(k, r + 1);
+                    return Ok(Some(Word { from: k, to: r + 1 }));
                 }
-                return Next::Cut;
+                return Err(Wrong { place: t.len() });
             }
             Start::Other => {
-                return Next::Word(k, word_end(t, k));
+                return Ok(Some(Word {
+                    from: k,
+                    to: word_end(t, k),
+                }));
             }
         }
     }

@@ -1,10 +1,9 @@
 -- The formula gives what the table of headers derives: at all numbers of the table at once, which is computed, and beyond them.
-use Prim.Native.Nat.{ℕ, ◌+◌, ◌%◌, ◌<◌, ◌≤◌}
+use Prim.Native.Nat.{ℕ, ◌%◌, ◌<◌, ◌≤◌}
 use native.Mathlib.Omega.{arith}
 use mathlib.Core.Path.{◌≡◌, refl}
 use mathlib.Core.Bool.{Bool, true, false, cond}
-use lib.Dec.{ltb, eqb}
-use borrow.Author.Tests.{ltb-true, lt-ltb, le-ltb, eq-eqb, ne_eqb}
+use borrow.Author.Tests.{lt-ltb, le-ltb, eq-eqb, ne_eqb}
 use Rattle.layout.proofs.TableLaws.{by_number}
 use Rattle.flexray.specs.Formula.{Roomy, made, paired, none, worked}
 use Rattle.flexray.specs.Setting.{headers, header}
@@ -38,14 +37,3 @@ short_are n h p e = rw (le-ltb 8 n h, le-ltb n 1 p, ne_eqb (n % 2) 0 e) at (work
 pub roomy : (full : Bool) (short : ℕ) {size len ctr : ℕ} → size ≡ cond full 4 short → Roomy short len ctr → Roomy size len ctr
 roomy true short e h = record { least = omega arith; most = omega arith }
 roomy false short e h = record { least = omega arith; most = omega arith }
-
--- an alignment is small
-picked : (b : Bool) {x y a : ℕ} → a ≡ cond b x y → (b ≡ true → x ≤ 4) → y ≤ 4 → a ≤ 4
-picked true e h k = omega (arith, h refl)
-picked false e h k = omega arith
-
-pub least-small : (free : ℕ) {a : ℕ} → a ≡ cond (ltb free 2) (free + 1) 4 → a ≤ 4
-least-small free e = picked (ltb free 2) e (λ g. omega (arith, ltb-true free 2 g)) (omega arith)
-
-pub most-small : (size : ℕ) {a : ℕ} → size ≤ 4 → a ≡ cond (eqb (size % 2) 0) size 1 → a ≤ 4
-most-small size h e = picked (eqb (size % 2) 0) e (λ g. h) (omega arith)

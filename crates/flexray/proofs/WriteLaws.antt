@@ -7,7 +7,7 @@ use mathlib.Core.List.{List, [], ◌∷◌, ◌++◌, append-nil, map}
 use lib.ListN.{length, length-map, get_or, take, drop, replicate}
 use borrow.Author.Tests.{eq-eqb, ne_eqb}
 use Rattle.layout.proofs.TestLaws.{why_passed, why_failed, passed, failed}
-use Rattle.packet.specs.Writing.{Writing as W}
+use Rattle.packet.specs.Writing.{Writing as Writes}
 use Rattle.packet.specs.Message.{Msg}
 use Rattle.packet.specs.Counter.{holds, later}
 use Rattle.packet.specs.Limit.{most_bytes}
@@ -89,12 +89,12 @@ module _ (s : Setting) (bs ns : List ℕ) (c fill : ℕ) (out : List ℕ) where
         next = later (W s) (moved (length ns)) c;
       }
 
-  accepted : {k d : ℕ} → (write_of s bs ns c fill out).answer ≡ W.Bytes k d → Written call (length out) k d
+  accepted : {k d : ℕ} → (write_of s bs ns c fill out).answer ≡ Writes.Bytes k d → Written call (length out) k d
   unfolding write_of composed
   accepted e = why_written call out e
 
   -- what stands at the front of the output is what was composed, and the rest of the output is as it was
-  pub written_front : (k d : ℕ) → (write_of s bs ns c fill out).answer ≡ W.Bytes k d
+  pub written_front : (k d : ℕ) → (write_of s bs ns c fill out).answer ≡ Writes.Bytes k d
       → (take k (write_of s bs ns c fill out).lent ≡ frame s fill c (packets ns bs)) × (drop k (write_of s bs ns c fill out).lent ≡ drop k out)
   unfolding write_of composed
   written_front k d e = wrote_front call out e
@@ -104,7 +104,7 @@ module _ (s : Setting) (bs ns : List ℕ) (c fill : ℕ) (out : List ℕ) where
   fitting = fit-before (misfit s) (misfit_tells s) no_span (spans s ns)
 
   -- the packets of a call that is accepted: there are some, one without LEN, and they fit
-  taken : {k d : ℕ} → (write_of s bs ns c fill out).answer ≡ W.Bytes k d
+  taken : {k d : ℕ} → (write_of s bs ns c fill out).answer ≡ Writes.Bytes k d
       → (0 < length (packets ns bs)) × (L s ≡ 0 → length (packets ns bs) ≡ 1) × Fits s (map length (packets ns bs))
   taken e =
       let w = accepted e in
@@ -114,7 +114,7 @@ module _ (s : Setting) (bs ns : List ℕ) (c fill : ℕ) (out : List ℕ) where
       (omega (arith, r.counted.some), λ l. n ∙ r.counted.one l, rw (packets_lengths ns bs r.matched.same) f)
 
   -- what the writer makes is a frame of its packets, with their counter
-  pub written_laid : (k d : ℕ) → (write_of s bs ns c fill out).answer ≡ W.Bytes k d
+  pub written_laid : (k d : ℕ) → (write_of s bs ns c fill out).answer ≡ Writes.Bytes k d
       → Frame s (placed s fill c (packets ns bs)) (take k (write_of s bs ns c fill out).lent)
   written_laid k d e =
       let w = accepted e in
@@ -122,7 +122,7 @@ module _ (s : Setting) (bs ns : List ℕ) (c fill : ℕ) (out : List ℕ) where
       rw (written_front k d e).0 (written s w.ready.setting fill c w.ready.counter (packets ns bs) some one fits)
 
   -- and no frame of those packets is shorter
-  pub written_least : (k d : ℕ) → (write_of s bs ns c fill out).answer ≡ W.Bytes k d
+  pub written_least : (k d : ℕ) → (write_of s bs ns c fill out).answer ≡ Writes.Bytes k d
       → (t : List ℕ) → Frame s (placed s fill c (packets ns bs)) t → k ≤ length t
   written_least k d e t f =
       let (some, one, fits) = taken e in
@@ -172,7 +172,7 @@ module _ (s : Setting) (bs ns : List ℕ) (c fill : ℕ) (out : List ℕ) where
       rw (← x) (Unwritten.misfit r (right_is m k) (omega arith))
   to-table (WriteRefusal.room r m k f h) = Unwritten.crowded r (right_is m k) (all_fit f) h
 
-  pub write_exact : Exact W.Refused W.Bytes (WriteRefusal s bs ns c fill (length out)) (WriteAccept s bs ns c fill (length out)) out
+  pub write_exact : Exact Writes.Refused Writes.Bytes (WriteRefusal s bs ns c fill (length out)) (WriteAccept s bs ns c fill (length out)) out
       (write_of s bs ns c fill out)
   unfolding write_of composed
   write_exact = writer call out (λ n p. by-table) (λ n p. to-table) takes answers

@@ -4,8 +4,7 @@ use Rattle.std.specs.Prelude.{ℕ, ◌+◌, ◌-◌, ◌%◌, cond, not, ◌||�
 use Rattle.layout.specs.Field.{says, Name.NAX, Name.LEN, Name.CTR}
 use Rattle.layout.specs.Walk.{Step, Out, walk, Out.refused}
 use Rattle.packet.specs.declared.Counter.{Counter}
-use Rattle.packet.specs.Seen.{Seen}
-use Rattle.packet.specs.Seen.{Seen as S}
+use Rattle.packet.specs.Seen.{Seen, Seen as S}
 use Rattle.packet.specs.Message.{Msg}
 use Rattle.packet.specs.Seen.{as_step}
 use Rattle.packet.specs.Counter.{valid}

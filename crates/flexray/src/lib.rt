@@ -10,7 +10,7 @@ use layout::{Shape, pick};
 
 // Node, direction, frame ceiling F, header type, packet alignment A.
 #[repr(C)]
-#[derive(Clone, Copy)]
+#[derive(Clone, Copy, Debug, PartialEq, Eq)]
 pub struct Setting {
     pub node: u32,
     pub direction: u32,
@@ -25,7 +25,7 @@ impl Setting {
 }
 
 // A header, and its alignments by the least and the most: it has at most two; 0, 0 where it has none.
-#[derive(Clone, Copy)]
+#[derive(Clone, Copy, Debug, PartialEq, Eq)]
 pub struct Entry {
     pub shape: Shape,
     pub least: u32,

@@ -13,7 +13,7 @@ use Rattle.flexray.specs.Setting.{Header, headers, header, fields, sound, among}
 use Rattle.flexray.proofs.AlignLaws.{among-header}
 use Rattle.flexray.proofs.SettingLaws.{good}
 use Rattle.plan.specs.declared.Plan.{Plan}
-use Rattle.plan.specs.declared.Planned.TheVariants as P
+use Rattle.std.specs.Prelude.{Some, None}
 use Rattle.plan.specs.Plan.{Sized}
 use Rattle.plan.proofs.PlanLaws.{was_sound, was_unsound, where_some}
 use Rattle.flexray_plan.specs.Plan.{setting, plan_of, planned_of, further_of, goes, EntryOf, Ready}
@@ -66,8 +66,8 @@ further-sized k =
     }
 
 -- the plan of a setting that is sound
-pub planned-ready : {s : Setting} {p : Plan} → P.Sound p ≡ planned_of s → (setting p ≡ s) × Ready p
+pub planned-ready : {s : Setting} {p : Plan} → Some p ≡ planned_of s → (setting p ≡ s) × Ready p
 planned-ready {s} e = let (h, i) = was_sound (sound s) (plan_of s (shape (fields s))) e in rw i (refl, ready s h)
 
-pub unplanned : (s : Setting) → P.Unsound ≡ planned_of s → sound s ≡ false
+pub unplanned : (s : Setting) → None ≡ planned_of s → sound s ≡ false
 unplanned s = was_unsound (sound s) (plan_of s (shape (fields s)))

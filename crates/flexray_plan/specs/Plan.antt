@@ -1,5 +1,5 @@
 -- A plan, in the layout's terms. What follows from a sound setting stands here in numbers, so that a proof finds it by itself.
-use Rattle.std.specs.Prelude.{ℕ, ◌+◌, ◌%◌, ◌<◌, ◌≤◌, ◌≡◌, Bool, true, ◌&&◌, ◌||◌, ltb, eqb}
+use Rattle.std.specs.Prelude.{Option, ℕ, ◌+◌, ◌%◌, ◌<◌, ◌≤◌, ◌≡◌, Bool, true, ◌&&◌, ◌||◌, ltb, eqb}
 use Rattle.layout.specs.declared.Shape.{Shape}
 use Rattle.layout.specs.Field.{shape, place, width, Name.NAX, Name.LEN, Name.CTR}
 use Rattle.layout.specs.Multiple.{Aligned}
@@ -9,7 +9,6 @@ use Rattle.flexray.specs.Setting.{header, fields, H, L, W, sound, most_ceiling}
 use Rattle.flexray.specs.Setting.{start as start_of}
 use Rattle.flexray.specs.Table.{entry}
 use Rattle.plan.specs.declared.Plan.{Plan}
-use Rattle.plan.specs.declared.Planned.{Planned}
 use Rattle.plan.specs.Plan.{planned}
 use Rattle.plan.specs.Plan.{plan_of as joined}
 
@@ -28,7 +27,7 @@ setting p =
 abbrev pub plan_of : Setting → Shape → Plan
 plan_of s k = joined 3 s.header s.align s.ceiling 255 s.direction s.node k
 
-abbrev pub planned_of : Setting → Planned
+abbrev pub planned_of : Setting → Option Plan
 planned_of s = planned (sound s) (plan_of s (shape (fields s)))
 
 -- the plan of the packets behind a frame's first: the header of each is its LEN, a byte, and none carries a counter

@@ -8,7 +8,7 @@ ghost use Rattle.flexray_plan.specs.Plan.{planned_of, further_of, goes, EntryOf,
 
 use flexray::{Entry, Setting, listed};
 use layout::{all, both, either, rounded};
-use plan::{Plan, Planned, joined};
+use plan::{FRAME, Plan, joined};
 
 // Whether an alignment goes with a header.
 fn aligned(h: Entry, a: u32) -> bool
@@ -34,16 +34,16 @@ fn sound(s: Setting, h: Entry) -> bool
     both(ok, aligned(h, s.align))
 }
 
-// The plan of a setting, or that it is not sound. Nobody else works a header out.
-pub fn plan_for(s: Setting) -> Planned
+// The plan of a setting that is sound. Nobody else works a header out.
+pub fn plan_for(s: Setting) -> Option<Plan>
     ensures { result ≡ planned_of s }
 {
     let h = listed(s.header);
-    if sound(s, h) {
-        let k = h.shape;
-        return Planned::Sound(joined(3, s.header, s.align, s.ceiling, 255, s.direction, s.node, k));
+    if !sound(s, h) {
+        return None;
     }
-    Planned::Unsound
+    let k = h.shape;
+    Some(joined(3, s.header, s.align, s.ceiling, 255, s.direction, s.node, k))
 }
 
 // The plan of the packets behind a frame's first: the header of each is its LEN, a byte, and none carries a counter.
@@ -51,16 +51,12 @@ pub fn further(p: Plan) -> Plan
     ensures { result ≡ further_of p }
 {
     Plan {
-        layout: 3,
-        header: p.header,
-        align: p.align,
-        datapacket: p.datapacket,
+        layout: FRAME,
         longest: 255,
-        direction: p.direction,
-        node: p.node,
         size: 1,
         lenwidth: 1,
         ctrwidth: 0,
+        ..p
     }
 }
 

@@ -12,8 +12,7 @@ use Rattle.layout.specs.Field.{says, Name.NAX}
 use Rattle.layout.specs.Leaf.{Number}
 use Rattle.layout.specs.Walk.{Out.refused}
 use Rattle.packet.specs.declared.Counter.{Counter}
-use Rattle.packet.specs.Reading.{Reading}
-use Rattle.packet.specs.Reading.{Reading as R}
+use Rattle.packet.specs.Reading.{Reading, Reading as R}
 use Rattle.packet.specs.Counter.{valid}
 use Rattle.packet.specs.Answer.{Gives, read_refused}
 use Rattle.packet.specs.Limit.{Short}
@@ -32,24 +31,23 @@ use Rattle.flexray.specs.Reading.{ahead, judged, read_of}
 use Rattle.flexray.proofs.ReadLaws.{judged-is, read_sound}
 use Rattle.flexray.proofs.ReadLaws.{Judged as Why}
 use Rattle.plan.specs.declared.Plan.{Plan}
-use Rattle.plan.specs.declared.Planned.{Planned}
-use Rattle.plan.specs.declared.Planned.TheVariants as P
+use Rattle.std.specs.Prelude.{Option, Some, None}
 use Rattle.flexray_plan.specs.Plan.{setting, planned_of, Ready}
 use Rattle.flexray_plan.proofs.PlanLaws.{planned-ready, unplanned}
 use Rattle.flexray_reader.specs.Reads.{framing, Fillable, answer_to, Readable, Giveable}
 use Rattle.flexray_reader.proofs.FrameLaws.{refuses}
 
 -- by the plan
-module _ (s : Setting) {x : Planned} (e : x ≡ planned_of s) where
-  pub plan_ready : {p : Plan} → x ≡ P.Sound p → Ready p
+module _ (s : Setting) {x : Option Plan} (e : x ≡ planned_of s) where
+  pub plan_ready : {p : Plan} → x ≡ Some p → Ready p
   plan_ready f = (planned-ready (sym f ∙ e)).1
 
   module _ (t : List ℕ) (c : Counter) (rows : List ℕ) {r : Reading} {new : List ℕ} where
-    pub by_plan : {p : Plan} → x ≡ P.Sound p → Gives (read_of (setting p) t c rows) r new → Gives (read_of s t c rows) r new
+    pub by_plan : {p : Plan} → x ≡ Some p → Gives (read_of (setting p) t c rows) r new → Gives (read_of s t c rows) r new
     by_plan f g = rw (planned-ready (sym f ∙ e)).0 at g
 
     -- for every state
-    pub unsound : x ≡ P.Unsound → Gives (read_refused rows 1 0) r new → Gives (read_of s t c rows) r new
+    pub unsound : x ≡ None → Gives (read_refused rows 1 0) r new → Gives (read_of s t c rows) r new
     unfolding read_of judged
     unsound f = gives_so (rw (unplanned s (sym f ∙ e)) (not_sound _ _ _ (valid (W s) c)))
 

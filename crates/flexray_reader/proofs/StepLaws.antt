@@ -8,8 +8,7 @@ use borrow.Author.Tests.{le-leb, lt-leb, ne_eqb, lt-ltb, le-ltb}
 use Rattle.layout.specs.Walk.{after}
 use Rattle.layout.proofs.WalkLaws.{walk_eq}
 use Rattle.packet.specs.declared.At.{At}
-use Rattle.packet.specs.Seen.{Seen}
-use Rattle.packet.specs.Seen.{Seen as S}
+use Rattle.packet.specs.Seen.{Seen, Seen as S}
 use Rattle.packet.specs.Seen.{as_step}
 use Rattle.plan.specs.declared.Plan.{Plan}
 use Rattle.plan.proofs.CaseLaws.{by_less}

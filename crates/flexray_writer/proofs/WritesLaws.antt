@@ -13,8 +13,7 @@ use Rattle.layout.proofs.RunLaws.{sets-append}
 use Rattle.layout.proofs.TestLaws.{or_left, or_right}
 use Rattle.lengths.specs.Lengths.{misfit_of}
 use Rattle.lengths.proofs.LengthsLaws as M
-use Rattle.packet.specs.Writing.{Writing}
-use Rattle.packet.specs.Writing.{Writing as W}
+use Rattle.packet.specs.Writing.{Writing, Writing as TheWriting}
 use Rattle.packet.specs.Answer as A
 use Rattle.packet.specs.Answer.{Answer, Gives, write_refused}
 use Rattle.packet.specs.Counter.{holds, later}
@@ -26,8 +25,7 @@ use Rattle.packet.proofs.TakeLaws.{taking, packet-long, packets-on}
 use Rattle.packet.proofs.WeighLaws as L
 use Rattle.packet.proofs.WeighLaws.{Call, answer_of, has_room}
 use Rattle.plan.specs.declared.Plan.{Plan}
-use Rattle.plan.specs.declared.Planned.{Planned}
-use Rattle.plan.specs.declared.Planned.TheVariants as P
+use Rattle.std.specs.Prelude.{Option, Some, None}
 use Rattle.plan.proofs.CaseLaws.{by_test}
 use Rattle.rows.specs.Counters.{Said, After}
 use Rattle.flexray.specs.declared.Setting.{Setting}
@@ -139,8 +137,8 @@ call s c free bs ns =
     }
 
 -- by the plan
-module _ (s : Setting) {x : Planned} (e : x ≡ planned_of s) where
-  module _ {p : Plan} (f : x ≡ P.Sound p) where
+module _ (s : Setting) {x : Option Plan} (e : x ≡ planned_of s) where
+  module _ {p : Plan} (f : x ≡ Some p) where
     plan_is : (setting p ≡ s) × Ready p
     plan_is = planned-ready (sym f ∙ e)
 
@@ -151,10 +149,10 @@ module _ (s : Setting) {x : Planned} (e : x ≡ planned_of s) where
     begun = record { ready = plan_is.1; last = omega (arith, least) }
 
   module _ (c free : ℕ) (bs ns out : List ℕ) {new : List ℕ} {r : Writing} where
-    pub by_plan : {p : Plan} → x ≡ P.Sound p → Gives (write_of (setting p) bs ns c free out) r new → Gives (write_of s bs ns c free out) r new
+    pub by_plan : {p : Plan} → x ≡ Some p → Gives (write_of (setting p) bs ns c free out) r new → Gives (write_of s bs ns c free out) r new
     by_plan f w = rw (plan_is f).0 at w
 
-    pub unsound : x ≡ P.Unsound → Gives (write_refused out 1 0) r new → Gives (write_of s bs ns c free out) r new
+    pub unsound : x ≡ None → Gives (write_refused out 1 0) r new → Gives (write_of s bs ns c free out) r new
     unfolding write_of composed
     unsound f = gives_so (L.unsound (call s c free bs ns) out (unplanned s (sym f ∙ e)))
 
@@ -216,7 +214,7 @@ module _ (p : Plan) (b : Begin) (bs ns out : List ℕ) where
     crowded h = gives_so (weighed_so ∙ L.crowded w out (ready k.begun.ready k.held) matched index (long f) (sym e ∙ h))
 
     pub written : x ≡ false → {new : List ℕ} {n : ℕ} → new ≡ sets out 0 (frame (setting p) b.free b.ctr (packets ns bs))
-        → After p.ctrwidth b.ctr n → Gives answer (W.Bytes (end + end % 2) n) new
+        → After p.ctrwidth b.ctr n → Gives answer (TheWriting.Bytes (end + end % 2) n) new
     unfolding moved later
     written h i u =
         let (room, most) = has_room most_bytes (length out) (end + end % 2) (sym e ∙ h) in

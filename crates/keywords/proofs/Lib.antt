@@ -1,4 +1,2 @@
-pub mod DigitLaws
 pub mod NumberLaws
-pub mod SayingLaws
 pub mod TableLaws

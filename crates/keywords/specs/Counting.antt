@@ -1,7 +1,6 @@
 -- How the digits of a number are counted.
-use Rattle.std.specs.Prelude.{ℕ, suc, ◌*◌, ◌<◌, ◌≤◌, ◌≡◌, Bool, true, false, cond, ◌&&◌, [], ◌∷◌, length, leb, eqb}
+use Rattle.std.specs.Prelude.{ℕ, suc, ◌*◌, ◌<◌, ◌≤◌, ◌≡◌, Bool, true, cond, ◌&&◌, [], ◌∷◌, drop, leb}
 use Rattle.std.proofs.Math.Option.{Option, none, some}
-use Rattle.std.proofs.Math.Seq.{slice}
 use Rattle.keywords.specs.Tables.{Text, digit, value, based}
 
 -- all are digits below the base
@@ -13,19 +12,11 @@ every base (b ∷ t) = leb (suc (digit b)) base && every base t
 abbrev pub counted : (base most n : ℕ) → Text → Option ℕ
 counted base most n t = cond (every base t && leb (value base n t) most) (some (value base n t)) none
 
--- the word from `from` to `to` is counted up to place i, which comes to n
-pub record Counting (base most : ℕ) (t : Text) (from to n i : ℕ) : Type 0 where
-  pub upto : i ≤ to
-  pub inside : to ≤ length t
+-- the digits ds are counted up to index i, which comes to n
+pub record Counting (base most : ℕ) (ds : Text) (n i : ℕ) : Type 0 where
   pub small : n ≤ most
   pub wide : n * base ≤ 16 * most
-  pub is : based base most (slice from to t) ≡ counted base most n (slice i to t)
-
--- whether 0x stands in front
-abbrev pub hexadecimal : Text → Bool
-hexadecimal [] = false
-hexadecimal (a ∷ []) = false
-hexadecimal (a ∷ b ∷ t) = eqb a 48 && eqb b 120
+  pub is : based base most ds ≡ counted base most n (drop i ds)
 
 -- a base that a byte may be a digit of
 pub record Base (base : ℕ) : Type 0 where

@@ -1,11 +1,10 @@
 -- What a word says: nothing where it is none of the kind that is asked for.
-use Rattle.std.specs.Prelude.{ℕ, ◌≡◌, Bool, cond}
+use Rattle.std.specs.Prelude.{ℕ, cond, List, [], ◌∷◌, Some, None}
+use Rattle.std.specs.declared.option.Option as O
 use Rattle.std.proofs.Math.Option.{Option, none, some}
 use Rattle.words.specs.Words.{same}
 use Rattle.keywords.specs.declared.Kind.{Kind}
 use Rattle.keywords.specs.declared.Kind.TheVariants as K
-use Rattle.keywords.specs.declared.Meant.{Meant}
-use Rattle.keywords.specs.declared.Meant.TheVariants.{Nothing, Value}
 use Rattle.keywords.specs.Tables.{Text, begin, xcp_on_usb, header, transfer, packing, alignment, number}
 
 -- this word and no other, which says 0
@@ -21,13 +20,11 @@ meaning K.Transfer = transfer
 meaning K.Packing = packing
 meaning K.Alignment = alignment
 
-abbrev pub told : Option ℕ → Meant
-told none = Nothing
-told (some n) = Value n
+abbrev pub told : Option ℕ → O.Option ℕ
+told none = None
+told (some n) = Some n
 
-pub record Tells (o : Option ℕ) (r : Meant) : Type 0 where
-  pub is : r ≡ told o
-
--- what is said by a line, which is the word's or not, and the lines behind it, which say `rest`
-pub record Lined (is : Bool) (n : ℕ) (rest r : Meant) : Type 0 where
-  pub line : r ≡ cond is (Value n) rest
+-- what a word says by lines of a name and the number that it says
+abbrev pub listed : List (Text × ℕ) → Text → Option ℕ
+listed [] w = none
+listed ((name, n) ∷ ls) w = cond (same w name) (some n) (listed ls w)

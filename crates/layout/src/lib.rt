@@ -8,7 +8,7 @@ ghost use Rattle.layout.specs.Leaf.{Within, Number};
 ghost use Rattle.layout.specs.Multiple.{Roundable, Rounded};
 
 // A header: its size, and the places and widths of LEN and CTR. The width is 0 where it has no such field.
-#[derive(Clone, Copy)]
+#[derive(Clone, Copy, Debug, PartialEq, Eq)]
 pub struct Shape {
     pub size: usize,
     pub lenat: usize,

@@ -1,8 +1,7 @@
 -- What a caller that lends its state is told.
 use Rattle.std.proofs.Common.{◌≡◌, ℕ, List, sym, refl, ◌∙◌}
 use Rattle.packet.specs.declared.Counter.{Counter}
-use Rattle.packet.specs.Reading.{Reading}
-use Rattle.packet.specs.Reading.{Reading as R}
+use Rattle.packet.specs.Reading.{Reading, Reading as R}
 use Rattle.packet.specs.Answer.{Answer, read_number, read_value}
 use Rattle.lent.specs.declared.Told.{Told}
 use Rattle.lent.specs.Told.{told_of, told_number, told_value, Tells}

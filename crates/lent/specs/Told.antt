@@ -1,8 +1,7 @@
 -- The lent state (document 01, 'What to write where'): what a caller is told of a reading. The state that is left is `readState`.
 use Rattle.std.specs.Prelude.{ℕ, ◌≡◌, List}
 use Rattle.packet.specs.declared.Counter.{Counter}
-use Rattle.packet.specs.Reading.{Reading}
-use Rattle.packet.specs.Reading.{Reading as R}
+use Rattle.packet.specs.Reading.{Reading, Reading as R}
 use Rattle.packet.specs.Answer.{Answer, read_state}
 use Rattle.lent.specs.declared.Told.{Told}
 use Rattle.lent.specs.declared.Told.TheVariants as T

@@ -4,8 +4,7 @@ use Rattle.std.proofs.Common.{length, take, drop, refl, ap, arith, ltb-false, lt
 use lib.Seq.{sets}
 use Rattle.layout.specs.Walk.{Out, Out.list, Out.refused}
 use Rattle.packet.specs.declared.Counter.{Counter}
-use Rattle.packet.specs.Reading.{Reading}
-use Rattle.packet.specs.Reading.{Reading as R}
+use Rattle.packet.specs.Reading.{Reading, Reading as R}
 use Rattle.packet.specs.Message.{Msg}
 use Rattle.packet.specs.Answer.{read_number, read_value, read_state, Answer, read_refused, settled, few_numbers, answered, Accepted}
 use Rattle.packet.proofs.AnswerLaws.{Exact, Unsettled, Settled, Apart, refuses, accepts, why_refused, why_accepted, keeps, put_front, kept_behind}

@@ -4,8 +4,7 @@ use Rattle.std.proofs.Common.{[], ◌∷◌, length, take, drop, sym, refl, ap, 
 use lib.Seq.{take-nil}
 use Rattle.layout.specs.Walk.{Leads, Step.entry, Leads.here, Leads.takes, Leads.skips}
 use Rattle.packet.specs.declared.Found.{Found}
-use Rattle.packet.specs.Seen.{Seen}
-use Rattle.packet.specs.Seen.{Seen as S}
+use Rattle.packet.specs.Seen.{Seen, Seen as S}
 use Rattle.packet.specs.Message.{Msg}
 use Rattle.packet.specs.Part.{part_of}
 use Rattle.packet.specs.Seen.{message, as_step}

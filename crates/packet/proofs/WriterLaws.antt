@@ -5,8 +5,7 @@ use mathlib.Core.Bool.{and-false}
 use lib.Seq.{sets}
 use Rattle.layout.specs.Walk.{Out, Out.list, Out.refused}
 use Rattle.layout.proofs.TestLaws.{Tells, Tells.passes, Tells.fails, why_passed, why_failed, passed, failed}
-use Rattle.packet.specs.Writing.{Writing}
-use Rattle.packet.specs.Writing.{Writing as W}
+use Rattle.packet.specs.Writing.{Writing, Writing as W}
 use Rattle.packet.specs.Answer.{Answer, Ready, write_refused, few_bytes, stored, weighed, NoRoom, NoRoom.small, NoRoom.long}
 use Rattle.packet.proofs.AnswerLaws.{Exact, Unsettled, Settled, Apart, refuses, accepts, why_refused, why_accepted, keeps, put_front, kept_behind}
 

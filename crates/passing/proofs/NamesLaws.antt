@@ -2,71 +2,57 @@
 use Prim.Native.Nat.{ℕ, zero, suc, ◌+◌, ◌-◌, ◌<◌, ◌≤◌}
 use native.Mathlib.Omega.{arith}
 use native.Mathlib.Numerals.{add-one}
-use mathlib.Core.Path.{◌≡◌, refl, sym, ap, ◌∙◌}
-use mathlib.Core.Bool.{Bool}
-use mathlib.Core.List.{List, ◌∷◌}
-use lib.ListN.{length, take, drop, get_or, set, length-set}
+use mathlib.Core.Path.{◌≡◌, refl}
+use mathlib.Core.List.{List, [], ◌∷◌}
+use lib.ListN.{length, set, length-set}
 use lib.Seq.{slice, get_or-set_same, get_or-set_other}
-use Rattle.words.specs.Words.{same}
-use Rattle.words.proofs.SameLaws.{slice_is}
-use Rattle.passing.specs.Names.{name_in, names_in, Lying, Lie, named}
+use Rattle.passing.specs.Names.{place, name_in, names_in, Lying, Lie}
 
-pub kept : (t ps : List ℕ) (i v d : ℕ) → d + d ≤ i → names_in t (set ps i v) d ≡ names_in t ps d
+kept : (t : List ℕ) (ps : List (ℕ × ℕ)) (i : ℕ) (v : ℕ × ℕ) (d : ℕ) → d ≤ i → names_in t (set ps i v) d ≡ names_in t ps d
 unfolding names_in
 kept t ps i v zero h = refl
-kept t ps i v (suc d) h =
-    rw (get_or-set_other ps i (d + d) v 0 (omega arith), get_or-set_other ps i (d + d + 1) v 0 (omega arith), kept t ps i v d (omega arith))
+kept t ps i v (suc d) h = rw (get_or-set_other ps i d v (0, 0) (omega arith), kept t ps i v d (omega arith))
 
-still : (t ps : List ℕ) (i v d : ℕ) → d + d ≤ i → Lie t ps d → Lie t (set ps i v) d
+still : (t : List ℕ) (ps : List (ℕ × ℕ)) (i : ℕ) (v : ℕ × ℕ) (d : ℕ) → d ≤ i → Lie t ps d → Lie t (set ps i v) d
 unfolding Lie
 still t ps i v zero h l = tt
 still t ps i v (suc d) h (a, l) =
-    let e : get_or (set ps i v) (d + d) 0 ≡ get_or ps (d + d) 0 = get_or-set_other ps i (d + d) v 0 (omega arith) in
-    let f : get_or (set ps i v) (d + d + 1) 0 ≡ get_or ps (d + d + 1) 0 = get_or-set_other ps i (d + d + 1) v 0 (omega arith) in (
-      record {
-        held = omega (arith, a.held, length-set ps i v);
-        name = rw (e, f) a.name;
-        inside = rw f a.inside;
-      },
-      still t ps i v d (omega arith) l,
-    )
+    let e : place (set ps i v) d ≡ place ps d = get_or-set_other ps i d v (0, 0) (omega arith) in
+    (record { held = omega (arith, a.held, length-set ps i v); name = rw e a.name; inside = rw e a.inside }, still t ps i v d (omega arith) l)
 
--- the topmost of the names
-pub top : (t ps : List ℕ) (d : ℕ) → Lie t ps (d + 1) → Lying t ps d
-unfolding Lie
-top t ps d l = (rw (add-one d) at l).0
-
--- a word is compared with a name as the part of the text that it is
-pub name-is : (t ps : List ℕ) (i : ℕ) (w : List ℕ) {a b : ℕ} {r : Bool} → Lying t ps i → a ≡ get_or ps (i + i) 0 → b ≡ get_or ps (i + i + 1) 0
-    → r ≡ same w (take (b - a) (drop a t)) → r ≡ same w (name_in t ps i)
-name-is t ps i w {a} {b} l e f g =
-    let n : a + (b - a) ≡ b = omega (arith, l.name) in
-    let x : slice a b t ≡ take (b - a) (drop a t) = ap (λ k. slice a k t) (sym n) ∙ slice_is a (b - a) t (omega (arith, l.name, l.inside)) in
-    g ∙ rw (← e, ← f, x)
-
--- a name on top of d names
-module _ (t ps : List ℕ) (d from to : ℕ) (h : d + d + 1 < length ps) where
-  first : get_or (named ps d from to) (d + d) 0 ≡ from
-  first =
-      get_or-set_other (set ps (d + d) from) (d + d + 1) (d + d) to 0 (omega arith) ∙ get_or-set_same ps (d + d) from 0 (omega arith)
-
-  second : get_or (named ps d from to) (d + d + 1) 0 ≡ to
-  second = get_or-set_same (set ps (d + d) from) (d + d + 1) to 0 (omega (arith, length-set ps (d + d) from))
-
-  pub opened : names_in t (named ps d from to) (suc d) ≡ slice from to t ∷ names_in t ps d
+module _ (t : List ℕ) (ps : List (ℕ × ℕ)) where
+  -- the innermost of the names, and those around it
+  pub names_some : (d : ℕ) → 0 < d → names_in t ps d ≡ name_in t ps (d - 1) ∷ names_in t ps (d - 1)
   unfolding names_in
-  opened =
-      let k : names_in t (named ps d from to) d ≡ names_in t ps d =
-      kept t (set ps (d + d) from) (d + d + 1) to d (omega arith) ∙ kept t ps (d + d) from d (omega arith) in
-      rw (first, second, k)
+  names_some zero h = absurd (omega arith)
+  names_some (suc d) h = let e : suc d - 1 ≡ d = omega arith in rw e
 
-  pub lies : from ≤ to → to ≤ length t → Lie t ps d → Lie t (named ps d from to) (suc d)
+  pub top : (d : ℕ) → 0 < d → Lie t ps d → Lying t ps (d - 1) × Lie t ps (d - 1)
   unfolding Lie
-  lies a b l = (
-    record {
-      held = omega (arith, length-set ps (d + d) from, length-set (set ps (d + d) from) (d + d + 1) to);
-      name = rw (first, second) a;
-      inside = rw second b;
-    },
-    still t (set ps (d + d) from) (d + d + 1) to d (omega arith) (still t ps (d + d) from d (omega arith) l),
-  )
+  top zero h l = absurd (omega arith)
+  top (suc d) h l = let e : suc d - 1 ≡ d = omega arith in rw e l
+
+  pub empty : Lie t ps 0
+  unfolding Lie
+  empty = tt
+
+  pub none_open : (d : ℕ) → d ≤ 0 → names_in t ps d ≡ []
+  unfolding names_in
+  none_open zero h = refl
+  none_open (suc d) h = absurd (omega arith)
+
+  -- a name on top of d names
+  module _ (d from to : ℕ) (h : d < length ps) where
+    first : place (set ps d (from, to)) d ≡ (from, to)
+    first = get_or-set_same ps d (from, to) (0, 0) h
+
+    pub opened : names_in t (set ps d (from, to)) (d + 1) ≡ slice from to t ∷ names_in t ps d
+    unfolding names_in
+    opened = rw (add-one d, first, kept t ps d (from, to) d (omega arith))
+
+    pub lies : from ≤ to → to ≤ length t → Lie t ps d → Lie t (set ps d (from, to)) (d + 1)
+    unfolding Lie
+    lies a b l = rw (add-one d) (
+      record { held = omega (arith, h, length-set ps d (from, to)); name = rw first a; inside = rw first b },
+      still t ps d (from, to) d (omega arith) l,
+    )

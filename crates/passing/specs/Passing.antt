@@ -1,99 +1,99 @@
 -- What the functions ask and tell that read over a block: what the text still comes to, whatever was found before.
-use Rattle.std.specs.Prelude.{ℕ, ◌+◌, ◌*◌, ◌<◌, ◌≤◌, ◌≡◌, true, List, [], ◌∷◌, length}
+use Rattle.std.specs.Prelude.{ℕ, ◌+◌, ◌-◌, ◌*◌, ◌<◌, ◌≤◌, ◌≡◌, true, List, [], ◌∷◌, length, Result, Ok, Err, Some}
 use Rattle.std.proofs.Math.Seq.{slice}
-use Rattle.description.specs.declared.Outcome.{Outcome}
-use Rattle.description.specs.declared.Outcome.TheVariants as O
-use Rattle.description.specs.declared.Reached.{Reached}
-use Rattle.description.specs.declared.Reached.TheVariants as R
-use Rattle.description.specs.Reading.{Found, State, ending, reading}
+use Rattle.words.specs.declared.Word.{Word}
+use Rattle.words.specs.declared.Wrong.{Wrong}
+use Rattle.description.specs.Reading as R
+use Rattle.description.specs.Reading.{Outcome, Found, State, ending, reading}
 use Rattle.description.specs.Standing.{most_text}
-use Rattle.finding.specs.declared.Next.TheVariants as N
 use Rattle.finding.specs.Finding.{NextWord}
 use Rattle.keywords.specs.Tables.{Text, begin, end, plain}
+use Rattle.passing.specs.declared.Names.{Names}
 use Rattle.passing.specs.declared.Sign.{Sign}
 use Rattle.passing.specs.declared.Sign.TheVariants as S
-use Rattle.passing.specs.declared.Turn.{Turn}
-use Rattle.passing.specs.declared.Turn.TheVariants as T
 use Rattle.passing.specs.Names.{name_in, names_in, Lie}
-
-abbrev pub Says : Text → ℕ → ℕ → Sign → Type 0
-Says w from to (S.Begin a b) = (w ≡ begin) × (a ≡ from) × (b ≡ to)
-Says w from to (S.End a b) = (w ≡ end) × (a ≡ from) × (b ≡ to)
-Says w from to (S.Other a b) = (plain w ≡ true) × (a ≡ from) × (b ≡ to)
-Says w from to (S.Stop p) = ⊥
-
-pub record SignOf (w : Text) (from to : ℕ) (r : Sign) : Type 0 where
-  pub is : Says w from to r
 
 -- a state in which the text may not end
 abbrev pub Open : State → Type 0
-Open s = (n : ℕ) → ending s n ≡ O.Wrong n
+Open s = (n : ℕ) → ending s n ≡ R.Wrong n
 
--- what the next word from place q on is
-abbrev pub Word : List ℕ → ℕ → Sign → Type 0
-Word t q (S.Begin from to) = NextWord t q (N.Word from to) × (slice from to t ≡ begin)
-Word t q (S.End from to) = NextWord t q (N.Word from to) × (slice from to t ≡ end)
-Word t q (S.Other from to) = NextWord t q (N.Word from to) × (plain (slice from to t) ≡ true)
-Word t q (S.Stop p) = (s : State) → Open s → reading t q s ≡ O.Wrong p
+-- in such a state the text comes to this
+abbrev pub Stopping : List ℕ → ℕ → Wrong → Type 0
+Stopping t q e = (s : State) → Open s → reading t q s ≡ Err e
 
-pub record Signed (t : List ℕ) (q : ℕ) (r : Sign) : Type 0 where
-  pub is : Word t q r
+-- the next word from place q on, where one has to stand
+abbrev pub Needed : List ℕ → ℕ → Result Word Wrong → Type 0
+Needed t q (Ok w) = NextWord t q (Ok (Some w))
+Needed t q (Err e) = Stopping t q e
 
--- at place q the names of d blocks are held; `more` bytes of /begin stand before it
-pub record Held (t ps : List ℕ) (d more q : ℕ) : Type 0 where
-  pub room : length ps ≡ 4680
+abbrev pub Says : Text → Sign → Type 0
+Says w S.Begin = w ≡ begin
+Says w S.End = w ≡ end
+Says w S.Other = plain w ≡ true
+
+-- .. and which of three it is
+abbrev pub Signed : List ℕ → ℕ → Result (Sign × Word) Wrong → Type 0
+Signed t q (Ok (x, w)) = NextWord t q (Ok (Some w)) × Says (slice w.from w.to t) x
+Signed t q (Err e) = Stopping t q e
+
+-- the name of a block, behind its /begin, whatever was found before and in whatever blocks
+abbrev pub NextName : List ℕ → ℕ → Result Word Wrong → Type 0
+NextName t q (Ok w) = NextWord t q (Ok (Some w)) × (plain (slice w.from w.to t) ≡ true)
+NextName t q (Err e) = (f : Found) (ns : List Text) → reading t q (State.begun f ns) ≡ Err e
+
+-- at place q these names are held; `more` bytes of /begin stand before it
+pub record Held (t : List ℕ) (n : Names) (more q : ℕ) : Type 0 where
   pub short : length t ≤ most_text
   pub inside : q ≤ length t
-  pub deep : 7 * d + more ≤ q
-  pub lie : Lie t ps d
+  pub deep : 7 * n.depth + more ≤ q
+  pub lie : Lie t n.places n.depth
 
-abbrev pub turned : List ℕ → List ℕ → Found → Turn → Outcome
-turned t ps f (T.On k d) = reading t k (State.inside f (names_in t ps d))
-turned t ps f (T.Wrong p) = O.Wrong p
+-- inside blocks of these names, also behind /begin; and behind /end, inside the innermost of them
+abbrev pub inside_of : List ℕ → Names → Found → State
+inside_of t n f = State.inside f (names_in t n.places n.depth)
 
-abbrev pub TurnedTo : List ℕ → List ℕ → ℕ → Turn → Type 0
-TurnedTo t ps q (T.On k d) = (q < k) × Held t ps d 0 k
-TurnedTo t ps q (T.Wrong p) = Unit {0}
+abbrev pub opening : List ℕ → Names → Found → State
+opening t n f = State.begun f (names_in t n.places n.depth)
 
--- from place q in state s on, by one word or a name behind one
-pub record Turned (t : List ℕ) (q : ℕ) (s : Found → State) (ps : List ℕ) (r : Turn) : Type 0 where
-  pub is : (f : Found) → reading t q (s f) ≡ turned t ps f r
-  pub place : TurnedTo t ps q r
+abbrev pub closing : List ℕ → Names → Found → State
+closing t n f = State.ended f (name_in t n.places (n.depth - 1)) (names_in t n.places (n.depth - 1))
 
--- inside d blocks, also behind /begin; and behind /end, inside the topmost of d and one more blocks
-abbrev pub inside_of : List ℕ → List ℕ → ℕ → Found → State
-inside_of t ps d f = State.inside f (names_in t ps d)
+abbrev pub turned : List ℕ → Names → Found → Result ℕ Wrong → Outcome
+turned t n f (Ok k) = reading t k (inside_of t n f)
+turned t n f (Err e) = Err e
 
-abbrev pub opening : List ℕ → List ℕ → ℕ → Found → State
-opening t ps d f = State.begun f (names_in t ps d)
+abbrev pub TurnedTo : List ℕ → Names → ℕ → Result ℕ Wrong → Type 0
+TurnedTo t n q (Ok k) = (q < k) × Held t n 0 k
+TurnedTo t n q (Err e) = Unit {0}
 
-abbrev pub closing : List ℕ → List ℕ → ℕ → Found → State
-closing t ps d f = State.ended f (name_in t ps d) (names_in t ps d)
+-- from place q in state s on, by one word or a name behind one, to where these names are held
+pub record Turned (t : List ℕ) (q : ℕ) (s : Found → State) (n : Names) (r : Result ℕ Wrong) : Type 0 where
+  pub is : (f : Found) → reading t q (s f) ≡ turned t n f r
+  pub place : TurnedTo t n q r
 
--- the block of the name from a place to a place may be read over from place q on
-pub record Passable (t : List ℕ) (from to q : ℕ) (ps : List ℕ) : Type 0 where
-  pub room : length ps ≡ 4680
+-- the block of this name may be read over from place q on
+pub record Passable (t : List ℕ) (name : Word) (q : ℕ) : Type 0 where
   pub short : length t ≤ most_text
-  pub name : from ≤ to
-  pub behind : to ≤ q
+  pub order : name.from ≤ name.to
+  pub behind : name.to ≤ q
   pub inside : q ≤ length t
   pub deep : 7 ≤ q
 
-abbrev pub reached : List ℕ → Found → Reached → Outcome
-reached t f (R.At k) = reading t k (State.inside f [])
-reached t f (R.Wrong p) = O.Wrong p
+abbrev pub reached : List ℕ → Found → Result ℕ Wrong → Outcome
+reached t f (Ok k) = reading t k (State.inside f [])
+reached t f (Err e) = Err e
 
-abbrev pub ReachedTo : List ℕ → ℕ → Reached → Type 0
-ReachedTo t q (R.At k) = (q ≤ k) × (k ≤ length t)
-ReachedTo t q (R.Wrong p) = Unit {0}
+abbrev pub ReachedTo : List ℕ → ℕ → Result ℕ Wrong → Type 0
+ReachedTo t q (Ok k) = (q ≤ k) × (k ≤ length t)
+ReachedTo t q (Err e) = Unit {0}
 
 -- to the end of that block
-pub record Passed (t : List ℕ) (from to q : ℕ) (r : Reached) : Type 0 where
-  pub is : (f : Found) → reading t q (State.inside f (slice from to t ∷ [])) ≡ reached t f r
+pub record Passed (t : List ℕ) (name : Word) (q : ℕ) (r : Result ℕ Wrong) : Type 0 where
+  pub is : (f : Found) → reading t q (State.inside f (slice name.from name.to t ∷ [])) ≡ reached t f r
   pub place : ReachedTo t q r
 
--- on the way there: place k, inside d blocks
-pub record OnTheWay (t : List ℕ) (from to q : ℕ) (ps : List ℕ) (k d : ℕ) : Type 0 where
-  pub is : (f : Found) → reading t q (State.inside f (slice from to t ∷ [])) ≡ reading t k (State.inside f (names_in t ps d))
-  pub held : Held t ps d 0 k
+-- on the way there: place k, inside blocks of these names
+pub record OnTheWay (t : List ℕ) (name : Word) (q : ℕ) (n : Names) (k : ℕ) : Type 0 where
+  pub is : (f : Found) → reading t q (State.inside f (slice name.from name.to t ∷ [])) ≡ reading t k (inside_of t n f)
+  pub held : Held t n 0 k
   pub on : q ≤ k

@@ -1,158 +1,148 @@
-// Reading over a block: the words and paired blocks inside it, up to its end. The names of the open blocks are held in a table, two numbers for
-// each: where the name starts and where it ends in the text.
+// Reading over a block: words and paired blocks, up to the block's end.
 #![tactic(auto)]
 
-ghost use Rattle.std.specs.Prelude.{◌≡◌, ◌+◌, ◌<◌, ◌≤◌, length};
-ghost use Rattle.std.proofs.Math.Seq.{slice};
-ghost use Rattle.words.specs.Words.{same as same_text};
-ghost use Rattle.passing.specs.Names.{name_in, named, Lying};
-ghost use Rattle.passing.specs.Passing.{SignOf, Signed, Held, inside_of, opening, closing, Turned, Passable, Passed};
+ghost use Rattle.std.specs.Prelude.{◌≡◌, ◌-◌, ◌<◌, ◌≤◌, length};
+ghost use Rattle.passing.specs.Names.{name_in, Lying, held};
+ghost use Rattle.passing.specs.Passing.{Needed, Says, Signed, NextName, Held, Turned, inside_of, opening, closing, Passable, Passed};
 
-use description::Reached;
-use finding::{Next, next_word};
-use words::same;
+use finding::next_word;
+use words::{Word, Wrong, same};
 
-// The next word, from a place to a place: /begin, /end or another; or the place where the text stops.
-#[derive(Clone, Copy)]
+// What a word inside a block does: it opens or closes a block, or neither.
+#[derive(Clone, Copy, Debug, PartialEq, Eq)]
 pub enum Sign {
-    Begin(usize, usize),
-    End(usize, usize),
-    Other(usize, usize),
-    Stop(usize),
+    Begin,
+    End,
+    Other,
 }
 
-// A place behind words that were read over, and how many blocks are open there; or the place that is wrong.
-#[derive(Clone, Copy)]
-enum Turn {
-    On(usize, usize),
-    Wrong(usize),
+// The names of the open blocks, the innermost last: where each starts and ends in the text. A name and the `/begin` before it take 7 bytes at least, so
+// 16,384 bytes open no more than 2,340 blocks.
+#[derive(Drop)]
+pub struct Names {
+    pub places: [(u16, u16); 2340],
+    pub depth: usize,
 }
 
-fn wide(n: u16) -> usize
-    ensures { result ≡ n }
+impl Names {
+    // No block is open.
+    pub fn new() -> Names
+        ensures { result.depth ≡ 0 }
+    {
+        Names {
+            places: [(0, 0); 2340],
+            depth: 0,
+        }
+    }
+
+    // Holds a name on top of the others.
+    fn hold(&mut self, name: Word)
+        requires { (self.old.depth < 2340) × (name.from < 65536) × (name.to < 65536) }
+        ensures { self.new ≡ held self.old name }
+    {
+        self.places[self.depth] = (name.from as u16, name.to as u16);
+        self.depth += 1;
+    }
+
+    // The innermost name.
+    fn innermost<'a>(&self, t: &'a [u8]) -> &'a [u8]
+        requires { (0 < self.now.depth) × Lying t.now self.now.places (self.now.depth - 1) }
+        ensures { result.now ≡ name_in t.now self.now.places (self.now.depth - 1) }
+    {
+        let (from, to) = self.places[self.depth - 1];
+        &t[usize::from(from)..usize::from(to)]
+    }
+}
+
+// The next word from place q on, where one has to stand.
+pub fn needed_word(t: &[u8], q: usize) -> Result<Word, Wrong>
+    requires { q ≤ length t.now }
+    ensures { Needed t.now q result }
 {
-    n as usize
-}
-
-fn low(n: usize) -> u16
-    requires { n < 65536 }
-    ensures { result ≡ n }
-{
-    n as u16
+    next_word(t, q)?.ok_or(Wrong { place: t.len() })
 }
 
 // Which of three a word is.
-fn sign_of(t: &[u8], from: usize, to: usize) -> Sign
-    requires { (from ≤ to) × (to ≤ length t.now) }
-    ensures { SignOf (slice from to t.now) from to result }
+fn sign_of(word: &[u8]) -> Sign
+    ensures { Says word.now result }
 {
-    if same(t, from, to, b"/begin") {
-        return Sign::Begin(from, to);
+    if same(word, b"/begin") {
+        return Sign::Begin;
     }
-    if same(t, from, to, b"/end") {
-        return Sign::End(from, to);
+    if same(word, b"/end") {
+        return Sign::End;
     }
-    Sign::Other(from, to)
+    Sign::Other
 }
 
-// The next word from place q on.
-pub fn next_sign(t: &[u8], q: usize) -> Sign
+// The next word from place q on, and which of three it is.
+pub fn next_sign(t: &[u8], q: usize) -> Result<(Sign, Word), Wrong>
     requires { q ≤ length t.now }
     ensures { Signed t.now q result }
 {
-    match next_word(t, q) {
-        Next::Word(from, to) => sign_of(t, from, to),
-        Next::End => Sign::Stop(t.len()),
-        Next::Cut => Sign::Stop(t.len()),
+    let word = needed_word(t, q)?;
+    Ok((sign_of(word.bytes(t)), word))
+}
+
+// The name of a block, behind its /begin.
+pub fn next_name(t: &[u8], q: usize) -> Result<Word, Wrong>
+    requires { q ≤ length t.now }
+    ensures { NextName t.now q result }
+{
+    let (sign, word) = next_sign(t, q)?;
+    match sign {
+        Sign::Other => Ok(word),
+        Sign::Begin | Sign::End => Err(Wrong { place: word.from }),
     }
 }
 
-// Holds a name on top of d names.
-fn hold(names: &mut [u16], d: usize, from: usize, to: usize)
-    requires { (d + d + 1 < length names.old) × (from ≤ to) × (to < 65536) }
-    ensures { names.new ≡ named names.old d from to }
+// A block opens: its name, behind its /begin.
+fn open(t: &[u8], q: usize, names: &mut Names) -> Result<usize, Wrong>
+    requires { (0 < names.old.depth) × Held t.now names.old 6 q }
+    ensures { Turned t.now q (opening t.now names.old) names.new result }
 {
-    names[d + d] = low(from);
-    names[d + d + 1] = low(to);
+    let word = next_name(t, q)?;
+    names.hold(word);
+    Ok(word.to)
 }
 
-// The name of a block that opens, behind its /begin.
-fn open(t: &[u8], q: usize, names: &mut [u16], depth: usize) -> Turn
-    requires { (0 < depth) × Held t.now names.old depth 6 q }
-    ensures { Turned t.now q (opening t.now names.old depth) names.new result }
+// The innermost block closes: its name, behind its /end.
+fn close(t: &[u8], q: usize, names: &mut Names) -> Result<usize, Wrong>
+    requires { (0 < names.old.depth) × Held t.now names.old 0 q }
+    ensures { Turned t.now q (closing t.now names.old) names.new result }
 {
-    match next_sign(t, q) {
-        Sign::Begin(from, _) => Turn::Wrong(from),
-        Sign::End(from, _) => Turn::Wrong(from),
-        Sign::Other(from, to) => {
-            hold(names, depth, from, to);
-            Turn::On(to, depth + 1)
-        }
-        Sign::Stop(p) => Turn::Wrong(p),
+    let word = needed_word(t, q)?;
+    if same(word.bytes(t), names.innermost(t)) {
+        names.depth -= 1;
+        Ok(word.to)
+    } else {
+        Err(Wrong { place: word.from })
     }
 }
 
-// Whether a word is the name that is held at i.
-fn is_name(t: &[u8], from: usize, to: usize, names: &[u16], i: usize) -> bool
-    requires { (from ≤ to) × (to ≤ length t.now) × Lying t.now names.now i }
-    ensures { result ≡ same_text (slice from to t.now) (name_in t.now names.now i) }
+// A word inside a block, and the name behind it where it opens or closes another.
+fn go_on(t: &[u8], q: usize, names: &mut Names) -> Result<usize, Wrong>
+    requires { (0 < names.old.depth) × Held t.now names.old 0 q }
+    ensures { Turned t.now q (inside_of t.now names.old) names.new result }
 {
-    let a = wide(names[i + i]);
-    let b = wide(names[i + i + 1]);
-    same(t, from, to, &t[a..b])
-}
-
-// The name of the block that closes, behind its /end: that on top of d names.
-fn close(t: &[u8], q: usize, names: &[u16], d: usize) -> Turn
-    requires { Held t.now names.now (d + 1) 0 q }
-    ensures { Turned t.now q (closing t.now names.now d) names.now result }
-{
-    match next_word(t, q) {
-        Next::Word(from, to) => {
-            if is_name(t, from, to, names, d) {
-                return Turn::On(to, d);
-            }
-            Turn::Wrong(from)
-        }
-        Next::End => Turn::Wrong(t.len()),
-        Next::Cut => Turn::Wrong(t.len()),
+    let (sign, word) = next_sign(t, q)?;
+    match sign {
+        Sign::Begin => open(t, word.to, names),
+        Sign::End => close(t, word.to, names),
+        Sign::Other => Ok(word.to),
     }
 }
 
-// A word inside a block, and the name behind it where it opens or closes another. This is what reading over a block does again and again, so the word is
-// told apart here and not by `next_sign`: one call less for each word.
-fn go_on(t: &[u8], q: usize, names: &mut [u16], depth: usize) -> Turn
-    requires { (0 < depth) × Held t.now names.old depth 0 q }
-    ensures { Turned t.now q (inside_of t.now names.old depth) names.new result }
+// From place q on, inside the block of this name, up to the end of that block.
+pub fn pass_over(t: &[u8], name: Word, q: usize, names: &mut Names) -> Result<usize, Wrong>
+    requires { Passable t.now name q }
+    ensures { Passed t.now name q result }
 {
-    match next_word(t, q) {
-        Next::Word(from, to) => match sign_of(t, from, to) {
-            Sign::Begin(_, behind) => open(t, behind, names, depth),
-            Sign::End(_, behind) => close(t, behind, names, depth - 1),
-            Sign::Other(_, behind) => Turn::On(behind, depth),
-            Sign::Stop(p) => Turn::Wrong(p),
-        },
-        Next::End => Turn::Wrong(t.len()),
-        Next::Cut => Turn::Wrong(t.len()),
-    }
-}
-
-// From place q on, inside the block of the name from a place to a place, up to the end of that block.
-pub fn pass_over(t: &[u8], from: usize, to: usize, q: usize, names: &mut [u16]) -> Reached
-    requires { Passable t.now from to q names.old }
-    ensures { Passed t.now from to q result }
-{
-    hold(names, 0, from, to);
+    names.depth = 0;
+    names.hold(name);
     let mut k = q;
-    let mut depth: usize = 1;
-    while depth > 0 {
-        match go_on(t, k, names, depth) {
-            Turn::On(place, open) => {
-                k = place;
-                depth = open;
-            }
-            Turn::Wrong(p) => return Reached::Wrong(p),
-        }
+    while names.depth > 0 {
+        k = go_on(t, k, names)?;
     }
-    Reached::At(k)
+    Ok(k)
 }

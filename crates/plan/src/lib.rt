@@ -90,15 +90,11 @@ impl Plan {
     {
         Self {
             layout,
-            header: self.header,
-            align,
-            datapacket: self.datapacket,
-            longest: self.longest,
-            direction: self.direction,
-            node: self.node,
-            size,
             lenwidth,
             ctrwidth,
+            size,
+            align,
+            ..self
         }
     }
 

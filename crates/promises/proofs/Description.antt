@@ -9,8 +9,7 @@ use mathlib.Core.Option.{Option, none, some}
 use mathlib.Core.List.{List, [], ◌∷◌, ◌++◌}
 use lib.ListN.{length}
 use Rattle.packet.specs.declared.Counter.{Counter}
-use Rattle.packet.specs.Reading.{Reading}
-use Rattle.packet.specs.Reading.{Reading as R}
+use Rattle.packet.specs.Reading.{Reading, Reading as R}
 use Rattle.packet.specs.Counter.{valid}
 use Rattle.packet.specs.Refusal.{ReadRefusal.setting, ReadRefusal.counter, ReadRefusal.long, ReadRefusal.rule, ReadRefusal.room}
 use Rattle.packet.proofs.CounterLaws.{not_valid}

@@ -7,10 +7,8 @@ use mathlib.Core.Bool.{true}
 use mathlib.Core.List.{List, [], ◌∷◌, ◌++◌, map}
 use lib.ListN.{length, take, get_or, replicate}
 use Rattle.packet.specs.declared.Counter.{Counter}
-use Rattle.packet.specs.Reading.{Reading}
-use Rattle.packet.specs.Reading.{Reading as R}
-use Rattle.packet.specs.Writing.{Writing}
-use Rattle.packet.specs.Writing.{Writing as W}
+use Rattle.packet.specs.Reading.{Reading, Reading as R}
+use Rattle.packet.specs.Writing.{Writing, Writing as TheWriting}
 use Rattle.packet.specs.Message.{Msg}
 use Rattle.packet.specs.Counter.{valid}
 use Rattle.packet.specs.Packets.{packets}
@@ -57,7 +55,7 @@ module _ (s : Setting) (bs ns : List ℕ) (c fill : ℕ) (out : List ℕ) where
 
   -- refused and accepted exactly when document 01 says so; a refusal changes nothing
   pub writes : {r : Writing} {left : List ℕ} → Writes r left
-      → Answers W.Refused W.Bytes (WriteRefusal s bs ns c fill (length out)) (WriteAccept s bs ns c fill (length out)) out r left
+      → Answers TheWriting.Refused TheWriting.Bytes (WriteRefusal s bs ns c fill (length out)) (WriteAccept s bs ns c fill (length out)) out r left
   writes = answers_promised (write_exact s bs ns c fill out)
 
   -- the packets that are given, and those that a reader sees
@@ -81,9 +79,9 @@ module _ (s : Setting) (bs ns : List ℕ) (c fill : ℕ) (out : List ℕ) where
     pub even : k % 2 ≡ 0
     pub least : (t : List ℕ) → Frame s sent t → k ≤ length t
 
-  pub written : {k d : ℕ} {left : List ℕ} → Writes (W.Bytes k d) left → Written k d left
+  pub written : {k d : ℕ} {left : List ℕ} → Writes (TheWriting.Bytes k d) left → Written k d left
   written {k} {d} {left} g =
-      let e : (write_of s bs ns c fill out).answer ≡ W.Bytes k d = sym g.answer in
+      let e : (write_of s bs ns c fill out).answer ≡ TheWriting.Bytes k d = sym g.answer in
       let a : WriteAccept s bs ns c fill (length out) k d = ((writes g).accepted k d).0 refl in
       let n : length given ≡ length ns = length-packets ns bs in
       let f = Laws.written_front s bs ns c fill out k d e in
@@ -101,7 +99,7 @@ module _ (s : Setting) (bs ns : List ℕ) (c fill : ℕ) (out : List ℕ) where
       }
 
   -- What was written reads back, with every state that is not refused and every table that has room: `same` and `alone` say which packets those are
-  module _ {k d : ℕ} {left : List ℕ} (g : Writes (W.Bytes k d) left) (e : Counter) (rows : List ℕ) where
+  module _ {k d : ℕ} {left : List ℕ} (g : Writes (TheWriting.Bytes k d) left) (e : Counter) (rows : List ℕ) where
     pub round_trip : {r : Reading} {past : List ℕ} → Reads s (take k left) e rows r past → valid (W s) e ≡ true → 5 * length ns ≤ length rows
         → (r ≡ R.Rows (length ns) (frame_state (W s) e sent)) × (take (5 * length ns) past ≡ frame_table s.direction (W s) e sent)
     round_trip h v l =

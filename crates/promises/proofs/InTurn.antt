@@ -9,9 +9,8 @@ use mathlib.Core.List.{List, [], ◌∷◌}
 use lib.ListN.{length, get_or, take}
 use lib.Seq.{get_or-take}
 use Rattle.packet.specs.declared.Counter.{Counter}
-use Rattle.packet.specs.Reading.{Reading}
-use Rattle.packet.specs.Reading.{Reading as R}
-use Rattle.packet.specs.Writing.{Writing as W}
+use Rattle.packet.specs.Reading.{Reading, Reading as R}
+use Rattle.packet.specs.Writing.{Writing as TheWriting}
 use Rattle.packet.specs.Message.{Msg}
 use Rattle.packet.specs.Counter.{valid}
 use Rattle.packet.specs.Packets.{packets}
@@ -63,7 +62,7 @@ module _ (s : Setting) where
     pub out : List ℕ
     pub count : ℕ
     pub left : List ℕ
-    pub call : Writes s bytes lengths c fill out (W.Bytes count d) left
+    pub call : Writes s bytes lengths c fill out (TheWriting.Bytes count d) left
     pub frame : x.frame ≡ take count left
     pub packets : x.packets ≡ sent s bytes lengths c fill out
 

@@ -6,10 +6,8 @@ use mathlib.Core.Bool.{false}
 use mathlib.Core.List.{List, [], ◌∷◌, map}
 use Rattle.layout.specs.Field.{size, place, width, Name.LEN, Name.CTR}
 use Rattle.layout.specs.Walk.{walk, go}
-use Rattle.packet.specs.Reading.{Reading}
-use Rattle.packet.specs.Reading.{Reading as Reads}
-use Rattle.packet.specs.Writing.{Writing}
-use Rattle.packet.specs.Writing.{Writing as Writes}
+use Rattle.packet.specs.Reading.{Reading, Reading as Reads}
+use Rattle.packet.specs.Writing.{Writing, Writing as Writes}
 use Rattle.packet.specs.Limit.{most_bytes, most_lengths}
 use Rattle.packet.specs.Kind.{kind_of}
 use Rattle.packet.specs.Part.{part_of, check_of, check_number, check_place}

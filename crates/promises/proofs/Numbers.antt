@@ -7,10 +7,8 @@ use mathlib.Core.Logic.{◌↔◌, ◌⊎◌, inl, inr}
 use mathlib.Core.List.{List}
 use lib.ListN.{length}
 use Rattle.packet.specs.declared.Counter.{Counter}
-use Rattle.packet.specs.Reading.{Reading}
-use Rattle.packet.specs.Reading.{Reading as R}
-use Rattle.packet.specs.Writing.{Writing}
-use Rattle.packet.specs.Writing.{Writing as W}
+use Rattle.packet.specs.Reading.{Reading, Reading as R}
+use Rattle.packet.specs.Writing.{Writing, Writing as W}
 use Rattle.packet.specs.Message.{Msg}
 use Rattle.packet.specs.Answer.{Answer, Gives, read_number, read_value, read_state, write_number, write_value, write_counter}
 use Rattle.packet.proofs.AnswerLaws.{Exact}

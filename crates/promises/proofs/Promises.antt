@@ -12,10 +12,8 @@ use mathlib.Core.List.{List, [], ◌∷◌, map}
 use lib.ListN.{length, take, drop}
 use borrow.Author.Tests.{le-leb, ne_eqb}
 use Rattle.packet.specs.declared.Counter.{Counter}
-use Rattle.packet.specs.Reading.{Reading}
-use Rattle.packet.specs.Reading.{Reading as R}
-use Rattle.packet.specs.Writing.{Writing}
-use Rattle.packet.specs.Writing.{Writing as W}
+use Rattle.packet.specs.Reading.{Reading, Reading as R}
+use Rattle.packet.specs.Writing.{Writing, Writing as W}
 use Rattle.packet.specs.Part.{Checked}
 use Rattle.packet.specs.Answer.{Answer, Gives}
 use Rattle.packet.specs.Counter.{fresh, valid, gap}

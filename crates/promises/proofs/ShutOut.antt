@@ -8,10 +8,8 @@ use mathlib.Core.Bool.{Bool, true, false, cond}
 use mathlib.Core.List.{List, [], ◌∷◌, ◌++◌, map}
 use lib.ListN.{get_or}
 use Rattle.packet.specs.declared.Counter.{Counter}
-use Rattle.packet.specs.Reading.{Reading}
-use Rattle.packet.specs.Reading.{Reading as Reads}
-use Rattle.packet.specs.Writing.{Writing}
-use Rattle.packet.specs.Writing.{Writing as Writes}
+use Rattle.packet.specs.Reading.{Reading, Reading as Reads}
+use Rattle.packet.specs.Writing.{Writing, Writing as Writes}
 use Rattle.packet.specs.Counter.{fresh}
 use Rattle.packet.specs.Answer.{Answer, Gives, read_number, write_number}
 use Rattle.packet.proofs.AnswerLaws.{gives, one-result}

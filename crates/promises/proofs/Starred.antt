@@ -8,13 +8,11 @@ use lib.ListN.{length, replicate}
 use Rattle.layout.specs.Multiple.{pad}
 use Rattle.layout.specs.Walk.{walk, go}
 use Rattle.packet.specs.declared.Counter.{Counter}
-use Rattle.packet.specs.Reading.{Reading as Reads}
-use Rattle.packet.specs.Writing.{Writing as Writes}
 use Rattle.packet.specs.Counter.{fresh, valid, gap, next, later, advance}
 use Rattle.packet.specs.Row.{row, table, behind}
 use Rattle.packet.specs.Packets.{packets, mismatched, first}
-use Rattle.packet.specs.Reading.{Reading}
-use Rattle.packet.specs.Writing.{Writing}
+use Rattle.packet.specs.Reading.{Reading, Reading as Reads}
+use Rattle.packet.specs.Writing.{Writing, Writing as Writes}
 use Rattle.packet.specs.Answer.{Answer, bounded, settled, weighed}
 use Rattle.usb.specs.declared.Setting as UsbSetting
 use Rattle.usb.specs.Setting as U

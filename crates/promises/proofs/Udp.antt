@@ -7,10 +7,8 @@ use mathlib.Core.Bool.{true}
 use mathlib.Core.List.{List, map}
 use lib.ListN.{length, length-map, take, get_or}
 use Rattle.packet.specs.declared.Counter.{Counter}
-use Rattle.packet.specs.Reading.{Reading}
-use Rattle.packet.specs.Reading.{Reading as R}
-use Rattle.packet.specs.Writing.{Writing}
-use Rattle.packet.specs.Writing.{Writing as W}
+use Rattle.packet.specs.Reading.{Reading, Reading as R}
+use Rattle.packet.specs.Writing.{Writing, Writing as TheWriting}
 use Rattle.packet.specs.Answer.{Gives}
 use Rattle.packet.specs.Counter.{valid, later}
 use Rattle.packet.specs.Message.{Msg}
@@ -46,7 +44,7 @@ module _ (s : Setting) (bs ns : List ℕ) (c : ℕ) (out : List ℕ) where
   Writes = Gives (write_of s bs ns c out)
 
   pub writes : {r : Writing} {left : List ℕ} → Writes r left
-      → Answers W.Refused W.Bytes (WriteRefusal s bs ns c (length out)) (WriteAccept s bs ns c (length out)) out r left
+      → Answers TheWriting.Refused TheWriting.Bytes (WriteRefusal s bs ns c (length out)) (WriteAccept s bs ns c (length out)) out r left
   writes = answers_promised (write_exact s bs ns c out)
 
   -- the packets that are given, and the messages that come to stand
@@ -66,9 +64,9 @@ module _ (s : Setting) (bs ns : List ℕ) (c : ℕ) (out : List ℕ) where
     -- a header for each packet, the packets, and no other byte: so an empty list gives no bytes
     pub total : k ≡ H * length ns + length bs
 
-  pub written : {k d : ℕ} {left : List ℕ} → Writes (W.Bytes k d) left → Written k d left
+  pub written : {k d : ℕ} {left : List ℕ} → Writes (TheWriting.Bytes k d) left → Written k d left
   written {k} {d} {left} g =
-      let e : (write_of s bs ns c out).answer ≡ W.Bytes k d = sym g.answer in
+      let e : (write_of s bs ns c out).answer ≡ TheWriting.Bytes k d = sym g.answer in
       let a : WriteAccept s bs ns c (length out) k d = ((writes g).accepted k d).0 refl in
       let n : length given ≡ length ns = length-packets ns bs in
       record {
@@ -80,7 +78,7 @@ module _ (s : Setting) (bs ns : List ℕ) (c : ℕ) (out : List ℕ) where
       }
 
   -- What was written reads back as the same list, with every state that is not refused and every table that has room
-  pub round_trip : {k d : ℕ} {left : List ℕ} → Writes (W.Bytes k d) left → (e : Counter) (rows : List ℕ) {r : Reading} {past : List ℕ}
+  pub round_trip : {k d : ℕ} {left : List ℕ} → Writes (TheWriting.Bytes k d) left → (e : Counter) (rows : List ℕ) {r : Reading} {past : List ℕ}
       → Reads s (take k left) e rows r past → valid W e ≡ true → 5 * length ns ≤ length rows
       → (r ≡ R.Rows (length ns) (behind W e sent)) × (take (5 * length ns) past ≡ table s.direction W e sent)
       × (map (λ m. m.packet) sent ≡ given)

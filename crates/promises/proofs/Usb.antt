@@ -6,10 +6,8 @@ use mathlib.Core.Bool.{Bool, true, false}
 use mathlib.Core.List.{List, [], map}
 use lib.ListN.{length, length-map, take, get_or}
 use Rattle.packet.specs.declared.Counter.{Counter}
-use Rattle.packet.specs.Reading.{Reading}
-use Rattle.packet.specs.Reading.{Reading as R}
-use Rattle.packet.specs.Writing.{Writing}
-use Rattle.packet.specs.Writing.{Writing as W}
+use Rattle.packet.specs.Reading.{Reading, Reading as R}
+use Rattle.packet.specs.Writing.{Writing, Writing as TheWriting}
 use Rattle.packet.specs.Message.{Msg}
 use Rattle.packet.specs.Counter.{valid, later}
 use Rattle.packet.specs.Row.{table, behind}
@@ -60,7 +58,7 @@ module _ (s : Setting) (bs ns : List ℕ) (c fill : ℕ) (full : Bool) (out : Li
 
   -- refused and accepted exactly when document 01 says so; a refusal changes nothing
   pub writes : {r : Writing} {left : List ℕ} → Writes r left
-      → Answers W.Refused W.Bytes (WriteRefusal s bs ns c fill full (length out)) (WriteAccept s bs ns c fill full (length out)) out r left
+      → Answers TheWriting.Refused TheWriting.Bytes (WriteRefusal s bs ns c fill full (length out)) (WriteAccept s bs ns c fill full (length out)) out r left
   writes = answers_promised (write_exact s bs ns c fill full out)
 
   -- the packets that are given, and the messages that come to stand
@@ -85,10 +83,10 @@ module _ (s : Setting) (bs ns : List ℕ) (c fill : ℕ) (full : Bool) (out : Li
     -- without filling up, a streamed transfer is at most the messages' total plus H - 1 for each full data packet
     pub bound : full ≡ false → s.packing ≡ 2 → k ≤ total s given + (H s - 1) * (k / s.datapacket)
 
-  pub written : {k d : ℕ} {left : List ℕ} → Writes (W.Bytes k d) left → Written k d left
+  pub written : {k d : ℕ} {left : List ℕ} → Writes (TheWriting.Bytes k d) left → Written k d left
   unfolding packets
   written {k} {d} {left} g =
-      let e : (write_of s bs ns c fill full out).answer ≡ W.Bytes k d = sym g.answer in
+      let e : (write_of s bs ns c fill full out).answer ≡ TheWriting.Bytes k d = sym g.answer in
       let a : WriteAccept s bs ns c fill full (length out) k d = ((writes g).accepted k d).0 refl in
       let ok = a.willing.setting in
       let n : length given ≡ length ns = length-packets ns bs in
@@ -106,7 +104,7 @@ module _ (s : Setting) (bs ns : List ℕ) (c fill : ℕ) (full : Bool) (out : Li
       }
 
   -- What was written reads back as the same list, with every state that is not refused and every table that has room
-  module _ {k d : ℕ} {left : List ℕ} (g : Writes (W.Bytes k d) left) (e : Counter) (rows : List ℕ) where
+  module _ {k d : ℕ} {left : List ℕ} (g : Writes (TheWriting.Bytes k d) left) (e : Counter) (rows : List ℕ) where
     pub round_trip : {r : Reading} {past : List ℕ} → Reads s (take k left) e rows r past → valid (W s) e ≡ true → 5 * length ns ≤ length rows
         → (r ≡ R.Rows (length ns) (behind (W s) e sent)) × (take (5 * length ns) past ≡ table s.direction (W s) e sent)
         × (map (λ m. m.packet) sent ≡ given)

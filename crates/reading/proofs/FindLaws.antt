@@ -10,8 +10,7 @@ use borrow.Author.Rules.{rules}
 use borrow.Author.Tests.{leb-true, le-leb, ne_eqb}
 use Rattle.packet.specs.declared.At.{At}
 use Rattle.packet.specs.declared.Found.{Found}
-use Rattle.packet.specs.Seen.{Seen}
-use Rattle.packet.specs.Seen.{Seen as S}
+use Rattle.packet.specs.Seen.{Seen, Seen as S}
 use Rattle.plan.specs.declared.Plan.{Plan}
 use Rattle.plan.specs.Place.{rests, header_at, packet_after, on_at, Beyond}
 use Rattle.plan.proofs.CaseLaws.{by_test}

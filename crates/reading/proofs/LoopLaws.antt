@@ -10,8 +10,7 @@ use Rattle.layout.specs.Walk.{Out, Out.list, Out.refused}
 use Rattle.packet.specs.declared.At.{At}
 use Rattle.packet.specs.declared.Counter.{Counter}
 use Rattle.packet.specs.declared.Found.{Found}
-use Rattle.packet.specs.Seen.{Seen}
-use Rattle.packet.specs.Seen.{Seen as S}
+use Rattle.packet.specs.Seen.{Seen, Seen as S}
 use Rattle.packet.specs.Limit.{most_bytes}
 use Rattle.packet.specs.Message.{Msg}
 use Rattle.packet.specs.Seen.{message}

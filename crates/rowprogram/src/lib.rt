@@ -2,7 +2,7 @@
 #![tactic(auto)]
 
 use rowtext::report;
-use standard::{Input, read_input, tell, write_output};
+use standard::{read_input, tell, write_output};
 
 // Writes the text of an input.
 fn answer(rt: &HostRuntime, t: &[u8]) {
@@ -20,7 +20,7 @@ fn answer(rt: &HostRuntime, t: &[u8]) {
 pub fn run(rt: &HostRuntime) {
     let mut input = [0u8; 8193];
     match read_input(rt, &mut input) {
-        Input::Bytes(n) => answer(rt, &input[0..n]),
-        Input::Failed => tell(rt, b"xcprows: standard input cannot be read\n"),
+        Ok(n) => answer(rt, &input[0..n]),
+        Err(_) => tell(rt, b"xcprows: standard input cannot be read\n"),
     }
 }

@@ -9,8 +9,7 @@ use lib.Seq.{sets}
 use borrow.Author.Tests.{lt-ltb, le-ltb}
 use Rattle.layout.specs.Walk.{Out, Out.list, Out.refused}
 use Rattle.packet.specs.declared.Counter.{Counter}
-use Rattle.packet.specs.Reading.{Reading}
-use Rattle.packet.specs.Reading.{Reading as R}
+use Rattle.packet.specs.Reading.{Reading, Reading as R}
 use Rattle.packet.specs.Answer.{Answer, Gives, read_refused, settled, answered}
 use Rattle.packet.specs.Message.{Msg}
 use Rattle.packet.proofs.AnswerLaws.{gives, gives_so}

@@ -8,8 +8,7 @@ use mathlib.Core.List.{List, ◌++◌}
 use lib.ListN.{length, get_or, drop, length-append}
 use lib.Seq.{sets, get_or-drop, drop-drop}
 use Rattle.packet.specs.declared.Counter.{Counter}
-use Rattle.packet.specs.Reading.{Reading}
-use Rattle.packet.specs.Reading.{Reading as R}
+use Rattle.packet.specs.Reading.{Reading, Reading as R}
 use Rattle.layout.proofs.RunLaws.{sets-append}
 use Rattle.spelling.specs.Put.{Puts, Reports}
 use Rattle.spelling.specs.Text.{refused_text}

@@ -1,7 +1,6 @@
 -- What putting the text of rows into a lent output asks.
 use Rattle.std.specs.Prelude.{ℕ, ◌+◌, ◌*◌, ◌≤◌, List, length}
-use Rattle.packet.specs.Reading.{Reading}
-use Rattle.packet.specs.Reading.{Reading as R}
+use Rattle.packet.specs.Reading.{Reading, Reading as R}
 
 -- a row at i has room at a place
 pub record Rowed (out : List ℕ) (at : ℕ) (rows : List ℕ) (i : ℕ) : Type 0 where

@@ -1,8 +1,7 @@
 -- The program's text (document 01, 'Examples'): a line for each row, five decimal numbers with one space between; or the one line of a refusal.
 use Rattle.std.specs.Prelude.{ℕ, zero, suc, cond, List, [], ◌++◌, length, get_or, drop, ltb}
 use Rattle.layout.specs.Walk.{Out, Out.list, Out.refused}
-use Rattle.packet.specs.Reading.{Reading}
-use Rattle.packet.specs.Reading.{Reading as R}
+use Rattle.packet.specs.Reading.{Reading, Reading as R}
 use Rattle.packet.specs.Answer.{Answer}
 use Rattle.packet.specs.Message.{Msg}
 use Rattle.packet.specs.Row.{table}

@@ -8,26 +8,16 @@ ghost use Rattle.standard.specs.Input.{input_of, Held};
 use std::io;
 use std::io::{Print, Read};
 
-// So many bytes at the front of a buffer; or a read failed.
-#[derive(Clone, Copy)]
-pub enum Input {
-    Bytes(usize),
-    Failed,
-}
-
-// What a read's answer says of the room that it was given.
-fn answered(got: io::Result<usize>, room: &[u8]) -> Input
+// What a read's answer says of the room that it was given: so many bytes at its front, or that the read failed.
+fn answered(got: io::Result<usize>, room: &[u8]) -> io::Result<usize>
     ensures value { result ≡ input_of got (length room.now) }
     ensures held { Held result room.now }
 {
-    match got {
-        Ok(n) => Input::Bytes(n.min(room.len())),
-        Err(_) => Input::Failed,
-    }
+    Ok(got?.min(room.len()))
 }
 
 // Reads once.
-fn read_some(rt: &HostRuntime, room: &mut [u8]) -> Input
+fn read_some(rt: &HostRuntime, room: &mut [u8]) -> io::Result<usize>
     ensures { Held result room.new }
 {
     let got = rt.stdin().read(room);
@@ -35,22 +25,18 @@ fn read_some(rt: &HostRuntime, room: &mut [u8]) -> Input
 }
 
 // Reads until the buffer is full or the input ends. A read of fewer bytes than have room is no end; only a read of none is.
-pub fn read_input(rt: &HostRuntime, buffer: &mut [u8]) -> Input
+pub fn read_input(rt: &HostRuntime, buffer: &mut [u8]) -> io::Result<usize>
     ensures { Held result buffer.new }
 {
     let mut n: usize = 0;
     while n < buffer.len() {
-        match read_some(rt, &mut buffer[n..]) {
-            Input::Bytes(k) => {
-                if k == 0 {
-                    return Input::Bytes(n);
-                }
-                n += k;
-            }
-            Input::Failed => return Input::Failed,
+        let k = read_some(rt, &mut buffer[n..])?;
+        if k == 0 {
+            break;
         }
+        n += k;
     }
-    Input::Bytes(n)
+    Ok(n)
 }
 
 // Tells a line on standard error. Where that fails, nothing is left to tell it on.

@@ -8,8 +8,7 @@ use lib.ListN.{length}
 use lib.Dec.{ltb, eqb}
 use borrow.Author.Tests.{ltb-true, ltb-false, eqb-true, eqb-false, lt-ltb, le-ltb, eq-eqb, ne_eqb}
 use Rattle.layout.specs.Field.{says, Name.LEN}
-use Rattle.packet.specs.Seen.{Seen}
-use Rattle.packet.specs.Seen.{Seen as S}
+use Rattle.packet.specs.Seen.{Seen, Seen as S}
 use Rattle.udp.specs.declared.Setting.{Setting}
 use Rattle.udp.specs.Setting.{fields, H}
 use Rattle.udp.specs.Reading.{message_at, seen}

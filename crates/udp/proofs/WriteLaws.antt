@@ -11,7 +11,7 @@ use borrow.Author.Tests.{ltb-true, ltb-false, eqb-true, eqb-false}
 use Rattle.layout.specs.Field.{values, puts, says, Name.LEN, Name.CTR}
 use Rattle.layout.proofs.FieldLaws.{length-puts, says-puts}
 use Rattle.layout.proofs.TestLaws.{Tells, Tells.passes, Tells.fails}
-use Rattle.packet.specs.Writing.{Writing as W}
+use Rattle.packet.specs.Writing.{Writing as Writes}
 use Rattle.packet.specs.Counter.{holds, next, later}
 use Rattle.packet.specs.Message.{Msg}
 use Rattle.packet.specs.Packets.{sum, packets}
@@ -120,18 +120,18 @@ module _ (s : Setting) (bs ns : List ℕ) (c : ℕ) (out : List ℕ) where
   call = T.call (sound s) W most_datagram (misfit s) (misfit_tells s) bs ns c made out
 
   -- what stands at the front of the output is what was composed, and the rest of the output is as it was
-  pub written_front : (k d : ℕ) → (write_of s bs ns c out).answer ≡ W.Bytes k d
+  pub written_front : (k d : ℕ) → (write_of s bs ns c out).answer ≡ Writes.Bytes k d
       → (take k (write_of s bs ns c out).lent ≡ made) × (drop k (write_of s bs ns c out).lent ≡ drop k out)
   unfolding write_of composed
   written_front k d e = wrote_front call out e
 
   -- refused exactly when, and accepted exactly when
-  pub write_exact : Exact W.Refused W.Bytes (WriteRefusal s bs ns c (length out)) (WriteAccept s bs ns c (length out)) out (write_of s bs ns c out)
+  pub write_exact : Exact Writes.Refused Writes.Bytes (WriteRefusal s bs ns c (length out)) (WriteAccept s bs ns c (length out)) out (write_of s bs ns c out)
   unfolding write_of composed
   write_exact = T.write_exact (sound s) W most_datagram (misfit s) (misfit_tells s) bs ns c made out (not_both_fit s)
 
   -- what the writer makes is laid out as its packets, with their counters
-  pub written_laid : (k d : ℕ) → (write_of s bs ns c out).answer ≡ W.Bytes k d
+  pub written_laid : (k d : ℕ) → (write_of s bs ns c out).answer ≡ Writes.Bytes k d
       → Datagram s (placed 0 c (packets ns bs)) (take k (write_of s bs ns c out).lent)
   written_laid k d e =
       let a : WriteAccept s bs ns c (length out) k d = (write_exact.accepted k d).0 e in

@@ -4,8 +4,7 @@ use Rattle.layout.specs.Field.{says, Name.LEN, Name.CTR}
 use Rattle.layout.specs.Walk.{Step, Out, walk}
 use Rattle.packet.specs.declared.Counter.{Counter}
 use Rattle.packet.specs.Reading.{Reading}
-use Rattle.packet.specs.Seen.{Seen}
-use Rattle.packet.specs.Seen.{Seen as S}
+use Rattle.packet.specs.Seen.{Seen, Seen as S}
 use Rattle.packet.specs.Answer.{Answer, bounded, answered}
 use Rattle.packet.specs.Counter.{valid}
 use Rattle.packet.specs.Message.{Msg}

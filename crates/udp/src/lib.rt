@@ -10,7 +10,7 @@ use plan::{Plan, joined};
 
 // Longest packet X, direction.
 #[repr(C)]
-#[derive(Clone, Copy)]
+#[derive(Clone, Copy, Debug, PartialEq, Eq)]
 pub struct Setting {
     pub longest: u32,
     pub direction: u32,

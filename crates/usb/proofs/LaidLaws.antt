@@ -17,8 +17,7 @@ use Rattle.layout.proofs.PartLaws.{cut, long, behind}
 use Rattle.packet.specs.Message.{Msg}
 use Rattle.packet.specs.Seen.{as_step}
 use Rattle.usb.specs.declared.Setting.{Setting}
-use Rattle.usb.specs.declared.Verdict.{Verdict}
-use Rattle.usb.specs.declared.Verdict.TheVariants.{TakeRest, TakeMessage}
+use Rattle.usb.specs.Reading.{Verdict, Verdict.TakeRest, Verdict.TakeMessage}
 use Rattle.usb.specs.Setting.{fields, H, whole}
 use Rattle.usb.specs.Layout.{Message, Reaches, Rest, Laid}
 use Rattle.usb.specs.Reading.{space, len_at, room, answer, seen, step}

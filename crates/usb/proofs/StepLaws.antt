@@ -7,8 +7,7 @@ use lib.Dec.{ltb, eqb}
 use borrow.Author.Tests.{ltb-true, ltb-false, eqb-true, eqb-false, lt-ltb, le-ltb, eq-eqb, ne_eqb}
 use Rattle.layout.proofs.TestLaws.{and_left, and_right}
 use Rattle.usb.specs.declared.Setting.{Setting}
-use Rattle.usb.specs.declared.Verdict.{Verdict}
-use Rattle.usb.specs.declared.Verdict.TheVariants.{Stop, TakeRest, TakeMessage, Refuse}
+use Rattle.usb.specs.Reading.{Verdict, Verdict.Stop, Verdict.TakeRest, Verdict.TakeMessage, Verdict.Refuse}
 use Rattle.usb.specs.Setting.{whole}
 use Rattle.usb.specs.Reading.{choose, room, judge}
 

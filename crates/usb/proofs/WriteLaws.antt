@@ -9,7 +9,7 @@ use lib.ListN.{length, take, drop}
 use lib.Dec.{ltb, eqb}
 use borrow.Author.Tests.{ltb-true, ltb-false, eqb-true, eqb-false}
 use Rattle.layout.proofs.TestLaws.{Tells, Tells.passes, Tells.fails}
-use Rattle.packet.specs.Writing.{Writing as W}
+use Rattle.packet.specs.Writing.{Writing as Writes}
 use Rattle.packet.specs.Limit.{most_bytes}
 use Rattle.packet.specs.Packets.{packets}
 use Rattle.packet.proofs.AnswerLaws.{Exact}
@@ -57,19 +57,19 @@ module _ (s : Setting) (bs ns : List ℕ) (c fill : ℕ) (full : Bool) (out : Li
   call = T.call (sound s) (W s) most_bytes (misfit s) (misfit_tells s) bs ns c made out
 
   -- what stands at the front of the output is what was composed, and the rest of the output is as it was
-  pub written_front : (k d : ℕ) → (write_of s bs ns c fill full out).answer ≡ W.Bytes k d
+  pub written_front : (k d : ℕ) → (write_of s bs ns c fill full out).answer ≡ Writes.Bytes k d
       → (take k (write_of s bs ns c fill full out).lent ≡ made) × (drop k (write_of s bs ns c fill full out).lent ≡ drop k out)
   unfolding write_of composed
   written_front k d e = wrote_front call out e
 
   -- refused exactly when, and accepted exactly when
-  pub write_exact : Exact W.Refused W.Bytes (WriteRefusal s bs ns c fill full (length out)) (WriteAccept s bs ns c fill full (length out)) out
+  pub write_exact : Exact Writes.Refused Writes.Bytes (WriteRefusal s bs ns c fill full (length out)) (WriteAccept s bs ns c fill full (length out)) out
       (write_of s bs ns c fill full out)
   unfolding write_of composed
   write_exact = T.write_exact (sound s) (W s) most_bytes (misfit s) (misfit_tells s) bs ns c made out (not_both_fit s)
 
   -- what the writer makes is laid out as its packets, with their counters
-  pub written_laid : (k d : ℕ) → (write_of s bs ns c fill full out).answer ≡ W.Bytes k d
+  pub written_laid : (k d : ℕ) → (write_of s bs ns c fill full out).answer ≡ Writes.Bytes k d
       → Transfer s (placed s 0 c (packets ns bs)) (take k (write_of s bs ns c fill full out).lent)
   written_laid k d e =
       let a : WriteAccept s bs ns c fill full (length out) k d = (write_exact.accepted k d).0 e in

@@ -4,8 +4,7 @@ use Rattle.layout.specs.Field.{says, Name.LEN, Name.CTR}
 use Rattle.layout.specs.Walk.{Step, Out, walk}
 use Rattle.packet.specs.declared.At.{At}
 use Rattle.packet.specs.declared.Counter.{Counter}
-use Rattle.packet.specs.Seen.{Seen}
-use Rattle.packet.specs.Seen.{Seen as S}
+use Rattle.packet.specs.Seen.{Seen, Seen as S}
 use Rattle.packet.specs.Message.{Msg}
 use Rattle.packet.specs.Seen.{as_step}
 use Rattle.packet.specs.Counter.{valid}
@@ -14,8 +13,6 @@ use Rattle.packet.specs.Reading.{Reading}
 use Rattle.packet.specs.Answer.{Answer, bounded, answered}
 use Rattle.packet.specs.Limit.{most_bytes}
 use Rattle.usb.specs.declared.Setting.{Setting}
-use Rattle.usb.specs.declared.Verdict.{Verdict}
-use Rattle.usb.specs.declared.Verdict.TheVariants.{Stop, TakeRest, TakeMessage, Refuse}
 use Rattle.usb.specs.Setting.{fields, H, W, whole, sound}
 
 ---- What stands at a place -----------------------------------------------------------------------------------------------------
@@ -27,6 +24,13 @@ space s t q = min (s.datapacket - q % s.datapacket) (length t - q)
 -- LEN of a header at place q; 0 where no header fits into that space
 unfoldable pub len_at : Setting → List ℕ → ℕ → ℕ
 len_at s t q = cond (ltb (space s t q) (H s)) 0 (says LEN (fields s) t q)
+
+-- what is to be done at a place
+pub data Verdict : Type 0 where
+  Stop : Verdict
+  TakeRest : Verdict
+  TakeMessage : Verdict
+  Refuse : ℕ → Verdict
 
 -- in this order: nothing left; behind a single message; no header or LEN zero, which is 6 in single packing and else a rest; LEN over X;
 -- longer than there is room

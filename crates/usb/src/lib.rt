@@ -10,7 +10,7 @@ use layout::{Shape, pick};
 
 // Header type, packing, alignment A, data packet size M, longest packet X, direction.
 #[repr(C)]
-#[derive(Clone, Copy)]
+#[derive(Clone, Copy, Debug, PartialEq, Eq)]
 pub struct Setting {
     pub header: u32,
     pub packing: u32,
@@ -20,17 +20,8 @@ pub struct Setting {
     pub direction: u32,
 }
 
-// What is to be done at a place.
-#[derive(Clone, Copy)]
-pub enum Verdict {
-    Stop,
-    TakeRest,
-    TakeMessage,
-    Refuse(u32),
-}
-
 // The shape of a header whose fields have `width` bytes, in one of three forms: 0 is LEN alone, 1 LEN and CTR, 2 LEN and free bytes. A CTR
-// that is absent stands at the header's end.
+// that is absent stands at the header's end. The form stays a number: it is the header's, a number of the C interface, less that of the first with this width.
 fn spread(form: u32, width: usize) -> Shape
     requires { width ≤ 2 }
     ensures { result ≡ spread_of form width }

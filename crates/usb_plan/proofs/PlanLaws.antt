@@ -17,7 +17,7 @@ use Rattle.usb.specs.declared.Setting.{Setting}
 use Rattle.usb.specs.Setting.{headers, fields, sound}
 use Rattle.usb.proofs.SettingLaws.{good, len-narrow}
 use Rattle.plan.specs.declared.Plan.{Plan}
-use Rattle.plan.specs.declared.Planned.TheVariants as P
+use Rattle.std.specs.Prelude.{Some, None}
 use Rattle.plan.specs.Plan.{most_of, Cased, Messages}
 use Rattle.plan.proofs.PlanLaws.{was_sound, was_unsound, at_most, where_some}
 use Rattle.usb_plan.specs.Plan.{setting, plan_of, planned_of, LenOf, Ready}
@@ -61,10 +61,10 @@ pub tailed : {p : Plan} → Ready p → eqb p.layout 3 ≡ false
 tailed {p} k = ne_eqb p.layout 3 (λ e. omega (arith, k.layout))
 
 -- the plan of a setting that is sound
-pub planned-ready : {s : Setting} {p : Plan} → P.Sound p ≡ planned_of s → (setting p ≡ s) × Ready p
+pub planned-ready : {s : Setting} {p : Plan} → Some p ≡ planned_of s → (setting p ≡ s) × Ready p
 planned-ready {s} e = let (h, i) = was_sound (sound s) (plan_of s (shape (fields s))) e in rw i (refl, ready s h)
 
-pub unplanned : (s : Setting) → P.Unsound ≡ planned_of s → sound s ≡ false
+pub unplanned : (s : Setting) → None ≡ planned_of s → sound s ≡ false
 unplanned s = was_unsound (sound s) (plan_of s (shape (fields s)))
 
 -- each packet has a header of its own

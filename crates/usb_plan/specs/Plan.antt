@@ -1,12 +1,11 @@
 -- A plan, in the layout's terms. What follows from a sound setting stands here in numbers, so that a proof finds it by itself.
-use Rattle.std.specs.Prelude.{ℕ, ◌+◌, ◌%◌, ◌<◌, ◌≤◌, ◌≡◌, true}
+use Rattle.std.specs.Prelude.{Option, ℕ, ◌+◌, ◌%◌, ◌<◌, ◌≤◌, ◌≡◌, true}
 use Rattle.layout.specs.declared.Shape.{Shape}
 use Rattle.layout.specs.Field.{shape, place, width, Name.LEN, Name.CTR}
 use Rattle.layout.specs.Multiple.{Aligned}
 use Rattle.usb.specs.declared.Setting.{Setting}
 use Rattle.usb.specs.Setting.{fields, H, sound}
 use Rattle.plan.specs.declared.Plan.{Plan}
-use Rattle.plan.specs.declared.Planned.{Planned}
 use Rattle.plan.specs.Plan.{planned}
 use Rattle.plan.specs.Plan.{plan_of as joined}
 
@@ -25,7 +24,7 @@ setting p =
 abbrev pub plan_of : Setting → Shape → Plan
 plan_of s k = joined s.packing s.header s.align s.datapacket s.longest s.direction 0 k
 
-abbrev pub planned_of : Setting → Planned
+abbrev pub planned_of : Setting → Option Plan
 planned_of s = planned (sound s) (plan_of s (shape (fields s)))
 
 -- the bytes of LEN in a setting's header

@@ -6,7 +6,7 @@ ghost use Rattle.usb.specs.Setting.{aligned as aligned_of, sized as sized_of, sa
 ghost use Rattle.usb_plan.specs.Plan.{planned_of, LenOf};
 
 use layout::{all, both, either};
-use plan::{Planned, joined};
+use plan::{Plan, joined};
 use usb::{Setting, shape};
 
 fn aligned(a: u32) -> bool
@@ -54,22 +54,22 @@ fn sound(s: Setting, lenwidth: usize) -> bool
     both(ok, s.direction < 2)
 }
 
-// The plan of a setting, or that it is not sound. Nobody else works a header out.
-pub fn plan_for(s: Setting) -> Planned
+// The plan of a setting that is sound. Nobody else works a header out.
+pub fn plan_for(s: Setting) -> Option<Plan>
     ensures { result ≡ planned_of s }
 {
     let k = shape(s.header);
-    if sound(s, k.lenwidth) {
-        return Planned::Sound(joined(
-            s.packing,
-            s.header,
-            s.align,
-            s.datapacket,
-            s.longest,
-            s.direction,
-            0,
-            k,
-        ));
+    if !sound(s, k.lenwidth) {
+        return None;
     }
-    Planned::Unsound
+    Some(joined(
+        s.packing,
+        s.header,
+        s.align,
+        s.datapacket,
+        s.longest,
+        s.direction,
+        0,
+        k,
+    ))
 }

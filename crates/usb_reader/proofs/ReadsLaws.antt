@@ -15,8 +15,7 @@ use Rattle.packet.specs.Limit.{most_bytes}
 use Rattle.packet.proofs.AnswerLaws.{gives_so}
 use Rattle.packet.proofs.ReadTableLaws.{bounded-same}
 use Rattle.plan.specs.declared.Plan.{Plan}
-use Rattle.plan.specs.declared.Planned.{Planned}
-use Rattle.plan.specs.declared.Planned.TheVariants as P
+use Rattle.std.specs.Prelude.{Option, Some, None}
 use Rattle.plan.specs.Plan.{most_of, Messages}
 use Rattle.message_reader.specs.Reads.{first, answer_by}
 use Rattle.message_reader.proofs.ReadsLaws.{first-standing}
@@ -44,8 +43,8 @@ module _ {p : Plan} (k : Ready p) (t : List ℕ) where
   unfolding answer_by read_of judged
   answer-is c rows = rw (k.ok, ← k.ctrwidth, most-is k, bounded-same true most_bytes (length t) ahead-is)
 
-module _ (s : Setting) {r : Planned} (i : r ≡ planned_of s) where
-  module _ {p : Plan} (e : r ≡ P.Sound p) where
+module _ (s : Setting) {r : Option Plan} (i : r ≡ planned_of s) where
+  module _ {p : Plan} (e : r ≡ Some p) where
     pub planned : Messages p
     planned = messages (planned-ready (sym e ∙ i)).1
 
@@ -55,7 +54,7 @@ module _ (s : Setting) {r : Planned} (i : r ≡ planned_of s) where
         let (f, k) = planned-ready (sym e ∙ i) in
         gives_so (sym (answer-is k t c rows ∙ rw f))
 
-  pub unsound : (t : List ℕ) (c : Counter) (rows : List ℕ) {a : Reading} {new : List ℕ} → r ≡ P.Unsound → Gives (read_refused rows 1 0) a new
+  pub unsound : (t : List ℕ) (c : Counter) (rows : List ℕ) {a : Reading} {new : List ℕ} → r ≡ None → Gives (read_refused rows 1 0) a new
       → Gives (read_of s t c rows) a new
   unfolding read_of judged bounded
   unsound t c rows e = gives_so (rw (unplanned s (sym e ∙ i)) (not_sound _ _ _ (valid (W s) c)))

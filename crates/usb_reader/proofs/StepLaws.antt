@@ -15,15 +15,13 @@ use Rattle.layout.specs.Walk.{after, before, Out.list, Out.refused}
 use Rattle.layout.proofs.MultipleLaws.{pad-whole, aligned_power}
 use Rattle.layout.proofs.WalkLaws.{walk_eq}
 use Rattle.packet.specs.declared.At.{At}
-use Rattle.packet.specs.Seen.{Seen}
-use Rattle.packet.specs.Seen.{Seen as S}
+use Rattle.packet.specs.Seen.{Seen, Seen as S}
 use Rattle.packet.specs.Seen.{message, as_step}
 use Rattle.plan.specs.declared.Plan.{Plan}
 use Rattle.plan.specs.Place.{streamed_at, packet_after}
 use Rattle.plan.proofs.CaseLaws.{by_test, by_less}
 use Rattle.plan.proofs.PlaceLaws.{end_starts, in_packet, streamed_is, on-by}
-use Rattle.usb.specs.declared.Verdict.{Verdict}
-use Rattle.usb.specs.declared.Verdict.TheVariants.{TakeRest}
+use Rattle.usb.specs.Reading.{Verdict, Verdict.TakeRest}
 use Rattle.usb.specs.Setting.{fields, H, whole}
 use Rattle.usb.specs.Reading.{space, len_at, room, answer, seen, step, ahead}
 use Rattle.usb.proofs.SettingLaws.{good}

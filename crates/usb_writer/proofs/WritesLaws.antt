@@ -13,8 +13,7 @@ use Rattle.packet.proofs.AnswerLaws.{gives_so}
 use Rattle.packet.proofs.PacketsLaws.{mismatch_tells}
 use Rattle.packet.proofs.WeighLaws.{weighed-same}
 use Rattle.plan.specs.declared.Plan.{Plan}
-use Rattle.plan.specs.declared.Planned.{Planned}
-use Rattle.plan.specs.declared.Planned.TheVariants as P
+use Rattle.std.specs.Prelude.{Option, Some, None}
 use Rattle.plan.specs.Plan.{Messages}
 use Rattle.sizing.specs.Sizes.{misfit_at, first}
 use Rattle.sizing.proofs.ReachLaws.{all_clear}
@@ -33,15 +32,15 @@ module _ (bs ns : List ℕ) (c fill : ℕ) (full : Bool) (out : List ℕ) where
       (λ m l. output_is k bs ns c fill full (why_failed (mismatch_tells ns bs) m).same (all_clear l)) in
       rw (k.ok, ← k.ctrwidth, most-is k, index_is k (first 0) ns, same)
 
-  module _ (s : Setting) {r : Planned} (i : r ≡ planned_of s) where
-    pub sound_so : {p : Plan} → r ≡ P.Sound p → write_of s bs ns c fill full out ≡ writes_by p bs ns c fill full out
+  module _ (s : Setting) {r : Option Plan} (i : r ≡ planned_of s) where
+    pub sound_so : {p : Plan} → r ≡ Some p → write_of s bs ns c fill full out ≡ writes_by p bs ns c fill full out
     sound_so e = let (f, k) = planned-ready (sym e ∙ i) in sym (answer-is k ∙ rw f)
 
-    pub unsound : r ≡ P.Unsound → write_of s bs ns c fill full out ≡ write_refused out 1 0
+    pub unsound : r ≡ None → write_of s bs ns c fill full out ≡ write_refused out 1 0
     unfolding write_of composed weighed settled
     unsound e = rw (unplanned s (sym e ∙ i))
 
-pub planned : (s : Setting) {r : Planned} {p : Plan} → r ≡ planned_of s → r ≡ P.Sound p → Messages p
+pub planned : (s : Setting) {r : Option Plan} {p : Plan} → r ≡ planned_of s → r ≡ Some p → Messages p
 planned s i e = messages (planned-ready (sym e ∙ i)).1
 
 pub ruleset plans = (rules, gives_so, planned, sound_so, unsound)

@@ -1,4 +1,3 @@
 pub mod Words
 pub mod Parting
-pub mod Comparing
 pub mod Spaced

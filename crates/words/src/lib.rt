@@ -6,7 +6,7 @@ ghost use Rattle.std.proofs.Math.Seq.{slice};
 ghost use Rattle.words.specs.Words.{same as same_text};
 
 // What starts at a place.
-#[derive(Clone, Copy)]
+#[derive(Clone, Copy, Debug, PartialEq, Eq)]
 pub enum Start {
     Nothing,
     Blank,
@@ -16,20 +16,32 @@ pub enum Start {
     Other,
 }
 
-// Whether the bytes from a place to a place are these.
-pub fn same(t: &[u8], from: usize, to: usize, word: &[u8]) -> bool
-    requires { (from ≤ to) × (to ≤ length t.now) }
-    ensures { result ≡ same_text (slice from to t.now) word.now }
+// A word of a text, from a place to a place.
+#[derive(Clone, Copy, Debug, PartialEq, Eq)]
+pub struct Word {
+    pub from: usize,
+    pub to: usize,
+}
+
+impl Word {
+    // Its bytes.
+    pub fn bytes(self, t: &[u8]) -> &[u8]
+        requires { (self.from ≤ self.to) × (self.to ≤ length t.now) }
+        ensures { result.now ≡ slice self.from self.to t.now }
+    {
+        &t[self.from..self.to]
+    }
+}
+
+// The place of a text that is wrong: the first word that cannot stand there, or the text's length where it stops early.
+#[derive(Clone, Copy, Debug, PartialEq, Eq)]
+pub struct Wrong {
+    pub place: usize,
+}
+
+// Whether two words are the same, byte for byte.
+pub fn same(word: &[u8], other: &[u8]) -> bool
+    ensures { result ≡ same_text word.now other.now }
 {
-    if to - from != word.len() {
-        return false;
-    }
-    let mut i = 0;
-    while i < word.len() {
-        if t[from + i] != word[i] {
-            return false;
-        }
-        i += 1;
-    }
-    true
+    word == other
 }

@@ -1,9 +1,10 @@
 -- The opening words, and then the entries.
-use Rattle.block.proofs.BlockLaws.{blocks}
+use Rattle.description.proofs.TurnLaws.{gives_on}
+use Rattle.block.proofs.BlockLaws.{block-entries, block-wrong}
 use Rattle.block.proofs.read_block.Goals as goal
 
-pub returns-in-At : goal.returns-in-At
-returns-in-At c = search blocks
+pub returns-in_err-values : goal.returns-in_err-values
+returns-in_err-values c = rw (gives_on c.from_residual.result c.from_residual.ensures) (block-wrong c.in_err-values.ensures)
 
-pub returns-in-Wrong : goal.returns-in-Wrong
-returns-in-Wrong c = search blocks
+pub returns : goal.returns
+returns c = block-entries c.in_ok-values.ensures c.entries.ensures

@@ -1,22 +1,19 @@
 -- The next word is of the kind, or it is wrong.
-use native.Mathlib.Omega.{arith}
-use mathlib.Core.Path.{sym, ◌∙◌}
-use Rattle.expecting.proofs.ExpectingLaws.{expect_word, expect_other, expect_end, expect_cut}
+use mathlib.Core.Path.{sym}
+use Rattle.description.proofs.TurnLaws.{gives_on}
+use Rattle.expecting.proofs.ExpectingLaws.{expect_word, expect_other, expect_stop}
 use Rattle.expecting.proofs.expect.Goals as goal
 
-pub says-requires : goal.says-requires
-says-requires c =
-    let n = rw c.in-Word.is at c.next_word.ensures in
-    (omega (arith, n.within), n.within.2)
+pub returns-in_err-word : goal.returns-in_err-word
+returns-in_err-word c = rw (gives_on c.from_residual.result c.from_residual.ensures) (expect_stop _ c.in_err-word.ensures)
 
-pub returns-in-Value : goal.returns-in-Value
-returns-in-Value c = expect_word (rw c.in-Word.is at c.next_word.ensures) (sym c.in-Value.is ∙ c.says.ensures)
+pub returns-in_err-said : goal.returns-in_err-said
+returns-in_err-said c =
+    let s = rw (c.bytes.ensures) at c.says.ensures in
+    rw (gives_on c.from_residual-in_err-said.result c.from_residual-in_err-said.ensures)
+    (expect_other _ c.in_ok-word.ensures (rw s at (sym c.in_err-said.ensures.value)))
 
-pub returns-in-Nothing : goal.returns-in-Nothing
-returns-in-Nothing c = expect_other (rw c.in-Word.is at c.next_word.ensures) (sym c.in-Nothing.is ∙ c.says.ensures)
-
-pub returns-in-End : goal.returns-in-End
-returns-in-End c = expect_end (rw c.in-End.is at c.next_word.ensures)
-
-pub returns-in-Cut : goal.returns-in-Cut
-returns-in-Cut c = expect_cut (rw c.in-Cut.is at c.next_word.ensures)
+pub returns : goal.returns
+returns c =
+    let s = rw (c.bytes.ensures) at c.says.ensures in
+    expect_word _ c.in_ok-word.ensures (rw s at (sym c.in_ok-said.ensures.value))

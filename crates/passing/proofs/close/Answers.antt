@@ -1,18 +1,18 @@
--- The word is the topmost name, or it is wrong.
-use Rattle.passing.proofs.PassingLaws.{names}
+-- The word is the innermost name, or it is wrong.
+use borrow.Author.Rules.{rules}
+use Rattle.passing.proofs.NamesLaws.{top}
+use Rattle.passing.proofs.PassingLaws.{close-on, close_other}
 use Rattle.passing.proofs.close.Goals as goal
 
-pub is_name-requires : goal.is_name-requires
-is_name-requires c = search names
+pub innermost-requires : goal.innermost-requires
+innermost-requires c = (c.requires.0, (top _ _ _ c.requires.0 c.requires.1.lie).0)
 
-pub returns-then-is_name : goal.returns-then-is_name
-returns-then-is_name c = search names
+pub returns-else-same : goal.returns-else-same
+returns-else-same c =
+    let same = rw (c.bytes.ensures, c.innermost.ensures) at c.same.ensures in
+    search (rules, close_other)
 
-pub returns-else-is_name : goal.returns-else-is_name
-returns-else-is_name c = search names
-
-pub returns-in-End : goal.returns-in-End
-returns-in-End c = search names
-
-pub returns-in-Cut : goal.returns-in-Cut
-returns-in-Cut c = search names
+pub returns-then-same : goal.returns-then-same
+returns-then-same c =
+    let same = rw (c.bytes.ensures, c.innermost.ensures) at c.same.ensures in
+    search (rules, close-on)

@@ -1,12 +1,7 @@
--- A name goes on top; /begin and /end are none.
-use Rattle.passing.proofs.PassingLaws.{names}
+-- A name goes on top of the others.
+use native.Mathlib.Omega.{arith}
+use Rattle.passing.proofs.PassingLaws.{open_on}
 use Rattle.passing.proofs.open.Goals as goal
 
-pub returns-in-Begin : goal.returns-in-Begin
-returns-in-Begin c = search names
-
-pub returns-in-End : goal.returns-in-End
-returns-in-End c = search names
-
-pub returns-in-Other : goal.returns-in-Other
-returns-in-Other c = search names
+pub returns : goal.returns
+returns c = rw c.hold.ensures (open_on c.requires.1 c.requires.0 c.in_ok-word.ensures (omega arith))

@@ -4,8 +4,8 @@ use lib.ListN.{length}
 use Rattle.passing.specs.Passing.{OnTheWay}
 use Rattle.passing.proofs.pass_over.Given as goal
 
-abbrev pub invariant-loop-depth : goal.invariant-loop-depth
-invariant-loop-depth l = OnTheWay l.t l.from l.to l.q l.names l.k l.depth
+abbrev pub invariant-loop-names : goal.invariant-loop-names
+invariant-loop-names l = OnTheWay l.t l.fn.name l.q l.names l.k
 
-abbrev pub decreases-loop-depth : goal.decreases-loop-depth
-decreases-loop-depth l = length l.t - l.k
+abbrev pub decreases-loop-names : goal.decreases-loop-names
+decreases-loop-names l = length l.t - l.k

@@ -1,4 +1,0 @@
-use Rattle.usb_plan.proofs.aligned.Goals as goal
-
-pub returns : goal.returns
-returns c = rw (c.either-3.ensures, c.either-2.ensures, c.either.ensures)
