@@ -1,9 +1,11 @@
 -- What a writer knows of its lengths when it refuses them, or does not.
-use Prim.Native.Nat.{ℕ, ◌<◌, ◌≤◌}
-use mathlib.Core.Path.{◌≡◌}
+use Prim.Native.Nat.{ℕ, ◌+◌, ◌<◌, ◌≤◌}
+use mathlib.Core.Path.{◌≡◌, refl, ap, ◌∙◌}
 use mathlib.Core.Bool.{Bool, true, false, cond}
-use mathlib.Core.List.{List}
+use mathlib.Core.List.{List, [], ◌∷◌}
 use lib.ListN.{length}
+use Rattle.std.proofs.lemmas.List.Sums.{sum_by-cons}
+use Rattle.std.specs.List.{sum as total}
 use Rattle.layout.proofs.TestLaws.{passed, failed}
 use Rattle.packet.specs.Answer as A
 use Rattle.packet.specs.Answer.{write_refused}
@@ -13,6 +15,11 @@ use Rattle.packet.proofs.PacketsLaws.{mismatch_tells, not_both}
 use Rattle.packet.proofs.WeighLaws as L
 use Rattle.packet.proofs.WeighLaws.{Call, answer_of}
 use Rattle.lengths.specs.Lengths.{misfit_of}
+
+-- the library's sum is ours
+pub total_is : (ns : List ℕ) → total ns ≡ sum ns
+total_is [] = refl
+total_is (n ∷ ns) = sum_by-cons (λ x. x) n ns ∙ ap (λ k. n + k) (total_is ns)
 
 module _ (ns bs : List ℕ) where
   pub many : most_lengths < length ns → mismatched ns bs ≡ true

@@ -1,5 +1,5 @@
 -- What writing asks of a plan holds where each packet has a header of its own; and the case that each call says by literals.
-use Prim.Native.Nat.{ℕ, ◌<◌, ◌≤◌}
+use Prim.Native.Nat.{ℕ}
 use native.Mathlib.Omega.{arith}
 use mathlib.Core.Path.{◌≡◌, sym}
 use borrow.Author.Rules.{rules}
@@ -20,8 +20,8 @@ module _ {p : Plan} (k : Messages p) where
       }
 
   module _ {l : ℕ} (e : l ≡ p.layout) where
-    pub counted-bytes : p.ctrwidth ≡ 1 → Cased l 1 1 2 p.align p
-    counted-bytes f = search rules
+    pub counted_bytes : p.ctrwidth ≡ 1 → Cased l 1 1 2 p.align p
+    counted_bytes f = search rules
 
     pub counted_words : p.ctrwidth ≡ 2 → Cased l 2 2 4 p.align p
     counted_words f = search rules
@@ -33,12 +33,7 @@ module _ {p : Plan} (k : Messages p) where
       pub words_alone : (p.lenwidth ≡ 1 → ⊥) → Cased l 2 0 p.size p.align p
       words_alone h = search rules
 
-  -- beyond data packets there is the datagram; behind single and multiple packing comes the stream
-  module _ {l : ℕ} (e : l ≡ p.layout) where
-    pub in_datagram : 2 < l → Cased 4 2 2 4 1 p
-    in_datagram h = k.datagram (omega arith)
+  pub in_datagram : {l : ℕ} → l ≡ p.layout → l ≡ 4 → Cased l 2 2 4 1 p
+  in_datagram e f = let k = k.datagram (omega arith) in rw f k
 
-    pub streams : l ≤ 2 → (p.layout ≡ 0 → ⊥) → (p.layout ≡ 1 → ⊥) → 2 ≡ p.layout
-    streams h f g = omega arith
-
-pub ruleset cases = (sym, in_datagram, streams, counted-bytes, counted_words, bytes_alone, words_alone)
+pub ruleset cases = (in_datagram, counted_bytes, counted_words, bytes_alone, words_alone)

@@ -14,9 +14,14 @@ use Rattle.layout.proofs.TestLaws.{and_right}
 use Rattle.lengths.specs.Lengths.{misfit_of}
 use Rattle.lengths.proofs.LengthsLaws as M
 use Rattle.packet.specs.declared.At.{At}
+use Rattle.packet.specs.declared.Reason.{Reason}
+use Rattle.packet.specs.declared.Reason.TheVariants as Y
+use Rattle.packet.specs.declared.Refusal.{Refusal}
+use Rattle.packet.specs.Writing.{Writing}
 use Rattle.packet.specs.Writing.{Writing as W}
 use Rattle.packet.specs.Answer as A
-use Rattle.packet.specs.Answer.{Gives, write_refused}
+use Rattle.packet.specs.Answer.{Answer, Gives, write_refused}
+use Rattle.packet.specs.Said.{number_of, refusal_at}
 use Rattle.packet.specs.Counter.{holds, later}
 use Rattle.packet.specs.Limit.{most_lengths, most_bytes, Short}
 use Rattle.packet.specs.Packets.{packets, mismatched}
@@ -33,20 +38,12 @@ use Rattle.writing.specs.Bytes.{rest_bytes, Resting}
 use Rattle.writing.specs.Puts.{bytes_from, Wrote}
 use Rattle.writing.proofs.AllLaws.{bytes-length}
 use Rattle.writing.proofs.PutLaws.{rest-length}
-use Rattle.message_writer.specs.declared.Weighed.{Weighed}
-use Rattle.message_writer.specs.declared.Weighed.TheVariants as S
-use Rattle.message_writer.specs.Writes.{end_of, composed, output_of, writes_by, Sizing, Putting, Ahead, Sizes, Weighs}
+use Rattle.message_writer.specs.Writes.{end_of, composed, output_of, writes_by, Sizing, Putting, Ahead, Sizes}
 use Rattle.message_writer.specs.Writes.{Fitted, Roomy, Composed}
 use Rattle.message_writer.proofs.CaseLaws.{formed}
 
 pub sizing : {p : Plan} → Messages p → {ns : List ℕ} → length ns ≤ most_lengths → Sizing p ns
 sizing k l = let m = formed k in search rules
-
-pub weighs : {p : Plan} → Messages p → {ns : List ℕ} {c : ℕ} {b : Bool} → b ≡ holds p.ctrwidth c → b ≡ true → length ns ≤ most_lengths
-    → {z : Sized} → SizedAs p 0 ns z → Weighs p ns c (S.Sizes z)
-weighs {p} k {ns} {c} e h l {z} s =
-    let x : Sizes p ns c z = record { counted = record { messages = k; held = sym e ∙ h; few = l }; sized = s } in
-    record { is = x }
 
 fitted : {p : Plan} {bs ns : List ℕ} {c : ℕ} {z : Sized} → Sizes p ns c z → length ns ≤ z.taken → z.sum ≡ length bs
     → Fitted p bs ns c z.behind
@@ -129,6 +126,11 @@ module _ {p : Plan} {bs ns : List ℕ} {c : ℕ} {a : At} {end n : ℕ} (h : Roo
 
 ---- The answer -----------------------------------------------------------------------------------------------------------------
 
+-- a refusal leaves the output
+refusing : {a : Answer Writing} {out : List ℕ} {r : Refusal} {y : Reason} {i : ℕ} → a ≡ write_refused out (number_of y) i → r ≡ refusal_at y i
+    → Gives a (W.Refused (number_of r.reason) r.place) out
+refusing e f = rw (e, f) (record { answer = refl; lent = refl })
+
 module _ (bs ns : List ℕ) (c fill : ℕ) (full : Bool) (out : List ℕ) where
   -- what is weighed
   abbrev call : Plan → Call
@@ -151,13 +153,6 @@ module _ (bs ns : List ℕ) (c fill : ℕ) (full : Bool) (out : List ℕ) where
   willing : {held : Bool} → held ≡ true → A.Ready true held
   willing h = record { setting = refl; counter = h }
 
-  module _ {p : Plan} (k : Messages p) {b : Bool} (e : b ≡ holds p.ctrwidth c) where
-    over_so : b ≡ false → writes_by p bs ns c fill full out ≡ write_refused out 1 0
-    over_so f = weighed_so p ∙ L.over (call p) out (sym e ∙ f)
-
-    many_so : b ≡ true → most_lengths < length ns → writes_by p bs ns c fill full out ≡ write_refused out 2 0
-    many_so f l = weighed_so p ∙ L.unmatched (call p) out (willing (sym e ∙ f)) (M.many ns bs l)
-
   module _ {p : Plan} {z : Sized} (x : Sizes p ns c z) where
     unfit : z.taken < length ns → writes_by p bs ns c fill full out ≡ misfit_of ns bs out z.taken
     unfit l = weighed_so p ∙ M.unfit (call p) out ns bs (willing x.counted.held) refl (sym x.sized.taken) l
@@ -173,8 +168,8 @@ module _ (bs ns : List ℕ) (c fill : ℕ) (full : Bool) (out : List ℕ) where
     matched = M.same ns bs f.counted.few f.same
 
     module _ {m : ℕ} (i : m ≡ most_of p) {b : Bool} (g : b ≡ (ltb (length out) end || ltb m end)) where
-      pub crowded : b ≡ true → writes_by p bs ns c fill full out ≡ write_refused out 4 0
-      crowded h = weighed_so p ∙ L.crowded (call p) out (willing f.counted.held) matched f.fit (long f fill full e) (rw (← i) (sym g ∙ h))
+      pub crowded : b ≡ true → {r : Refusal} → r ≡ refusal_at Y.NoRoom 0 → Gives (writes_by p bs ns c fill full out) (W.Refused (number_of r.reason) r.place) out
+      crowded h = refusing (weighed_so p ∙ L.crowded (call p) out (willing f.counted.held) matched f.fit (long f fill full e) (rw (← i) (sym g ∙ h)))
 
       pub written : {new : List ℕ} {r : ℕ} → b ≡ false → Composed p bs ns c fill a end out new r
           → Gives (writes_by p bs ns c fill full out) (W.Bytes end r) new
@@ -184,41 +179,39 @@ module _ (bs ns : List ℕ) (c fill : ℕ) (full : Bool) (out : List ℕ) where
           (L.written (call p) out (willing f.counted.held) matched f.fit (long f fill full e) room (omega arith)
           (x.bytes ∙ rw (whole f fill full e)) x.counter)
 
-module _ (ns : List ℕ) (c : ℕ) {p : Plan} (k : Messages p) {b : Bool} (e : b ≡ holds p.ctrwidth c) where
-  pub over : b ≡ false → Weighs p ns c (S.Refused 1)
-  over f = record { is = λ bs fill full out. over_so bs ns c fill full out k e f }
+-- a refusal, by the counter, by how many lengths there are, and by their sizes
+module _ {p : Plan} (k : Messages p) (ns : List ℕ) (c : ℕ) {b : Bool} (e : b ≡ holds p.ctrwidth c) where
+  module _ (bs : List ℕ) (fill : ℕ) (full : Bool) (out : List ℕ) {r : Refusal} where
+    pub over : b ≡ false → r ≡ refusal_at Y.Unsound 0 → Gives (writes_by p bs ns c fill full out) (W.Refused (number_of r.reason) r.place) out
+    over f = refusing (weighed_so bs ns c fill full out p ∙ L.over (call bs ns c fill full out p) out (sym e ∙ f))
 
-  pub too_many : b ≡ true → most_lengths < length ns → Weighs p ns c (S.Refused 2)
-  too_many f l = record { is = λ bs fill full out. many_so bs ns c fill full out k e f l }
+    pub many : b ≡ true → most_lengths < length ns → r ≡ refusal_at Y.Mismatch 0
+        → Gives (writes_by p bs ns c fill full out) (W.Refused (number_of r.reason) r.place) out
+    many f l =
+        refusing
+        (weighed_so bs ns c fill full out p
+        ∙ L.unmatched (call bs ns c fill full out p) out (willing bs ns c fill full out (sym e ∙ f)) (M.many ns bs l))
 
--- what was weighed: a refusal, or sizes, by which lengths do not fit, differ from the packets, or fit
-module _ {p : Plan} {ns : List ℕ} {c : ℕ} {w : Weighed} (i : Weighs p ns c w) where
-  pub refused_so : (bs : List ℕ) (fill : ℕ) (full : Bool) (out : List ℕ) {n : ℕ} → w ≡ S.Refused n
-      → writes_by p bs ns c fill full out ≡ write_refused out n 0
-  refused_so bs fill full out e = (rw e at i.is) bs fill full out
-
-  module _ {z : Sized} (e : w ≡ S.Sizes z) where
+  module _ (h : b ≡ true) (l : length ns ≤ most_lengths) {z : Sized} (s : SizedAs p 0 ns z) where
     sizes : Sizes p ns c z
-    sizes = rw e at i.is
+    sizes = record { counted = record { messages = k; held = sym e ∙ h; few = l }; sized = s }
 
     pub index_short : z.taken < length ns → Short z.taken
-    index_short l = record { short = omega (arith, sizes.counted.few) }
+    index_short t = record { short = omega (arith, l) }
 
-    pub unfit_so : (bs : List ℕ) (fill : ℕ) (full : Bool) (out : List ℕ) → z.taken < length ns
-        → writes_by p bs ns c fill full out ≡ misfit_of ns bs out z.taken
-    unfit_so bs fill full out = unfit bs ns c fill full out sizes
+    module _ (bs : List ℕ) (fill : ℕ) (full : Bool) (out : List ℕ) (r : Refusal) where
+      pub unfit_so : z.taken < length ns → ((o : List ℕ) → Gives (misfit_of ns bs o z.taken) (W.Refused (number_of r.reason) r.place) o)
+          → Gives (writes_by p bs ns c fill full out) (W.Refused (number_of r.reason) r.place) out
+      unfit_so t g = gives_so (unfit bs ns c fill full out sizes t) (g out)
 
-    module _ (l : length ns ≤ z.taken) where
-      pub unlike_so : (bs : List ℕ) (fill : ℕ) (full : Bool) (out : List ℕ) → (z.sum ≡ length bs → ⊥)
-          → writes_by p bs ns c fill full out ≡ write_refused out 2 0
-      unlike_so bs fill full out = unlike bs ns c fill full out sizes l
+      pub unlike_so : length ns ≤ z.taken → (z.sum ≡ length bs → ⊥) → r ≡ refusal_at Y.Mismatch 0
+          → Gives (writes_by p bs ns c fill full out) (W.Refused (number_of r.reason) r.place) out
+      unlike_so t f = refusing (unlike bs ns c fill full out sizes t f)
 
-      pub fitted_so : {bs : List ℕ} → z.sum ≡ length bs → Fitted p bs ns c z.behind
-      fitted_so = fitted sizes l
+    pub fitted_so : {bs : List ℕ} → length ns ≤ z.taken → z.sum ≡ length bs → Fitted p bs ns c z.behind
+    fitted_so = fitted sizes
 
-pub ruleset counts = (rules, sizing, weighs, over, too_many)
-
-pub ruleset answers = (rules, gives_so, refused_so, index_short, unfit_so, unlike_so, fitted_so)
+pub ruleset answers = (rules, sizing, over, many, index_short, unfit_so, unlike_so, fitted_so)
 
 pub ruleset rooms = (rules, gives_so, ahead, roomy, short, crowded, written)
 

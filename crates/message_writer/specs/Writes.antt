@@ -3,7 +3,7 @@ use Rattle.std.specs.Prelude.{ℕ, ◌-◌, ◌<◌, ◌≤◌, ◌≡◌, Bool,
 use Rattle.std.proofs.lemmas.List.Edits.{sets}
 use Rattle.packet.specs.declared.At.{At}
 use Rattle.packet.specs.Writing.{Writing}
-use Rattle.packet.specs.Answer.{Answer, weighed, stored, write_refused}
+use Rattle.packet.specs.Answer.{Answer, weighed, stored}
 use Rattle.packet.specs.Counter.{holds, later}
 use Rattle.packet.specs.Limit.{most_lengths, most_bytes}
 use Rattle.packet.specs.Packets.{sum, packets, mismatched}
@@ -14,8 +14,6 @@ use Rattle.sizing.specs.Sizes.{misfit_at, reach, first, Sizable, SizedAs}
 use Rattle.writing.specs.declared.Begin.{Begin}
 use Rattle.writing.specs.Bytes.{rest_bytes}
 use Rattle.writing.specs.Puts.{bytes_from, Writable}
-use Rattle.message_writer.specs.declared.Weighed.{Weighed}
-use Rattle.message_writer.specs.declared.Weighed.TheVariants as W
 
 ---- The answer -----------------------------------------------------------------------------------------------------------------
 
@@ -64,14 +62,6 @@ pub record Counted (p : Plan) (ns : List ℕ) (c : ℕ) : Type 0 where
 pub record Sizes (p : Plan) (ns : List ℕ) (c : ℕ) (z : Sized) : Type 0 where
   pub counted : Counted p ns c
   pub sized : SizedAs p 0 ns z
-
--- what weighing them tells: their sizes, or a refusal, whatever the packets are
-abbrev pub Verdict : Plan → (ns : List ℕ) (c : ℕ) → Weighed → Type 0
-Verdict p ns c (W.Sizes z) = Sizes p ns c z
-Verdict p ns c (W.Refused n) = (bs : List ℕ) (fill : ℕ) (full : Bool) (out : List ℕ) → writes_by p bs ns c fill full out ≡ write_refused out n 0
-
-pub record Weighs (p : Plan) (ns : List ℕ) (c : ℕ) (w : Weighed) : Type 0 where
-  pub is : Verdict p ns c w
 
 -- .. their sum is that of the bytes, and all fit: their messages end at a place
 pub record Fitted (p : Plan) (bs ns : List ℕ) (c : ℕ) (a : At) : Type 0 where

@@ -1,5 +1,5 @@
-// Where messages come to stand, and the size of what is to be written, once for every layout: 0 single, 1 multiple, 2 streaming, 3 frame, 4 datagram.
-// Whoever calls the loop says its case by literals, and the compiler makes a loop for each.
+// Where messages come to stand, and the size of what is to be written, once for every layout. The loop has its layout for a const parameter, so there
+// is one for each.
 #![tactic(auto)]
 
 ghost use Rattle.std.specs.Prelude.{◌≡◌};
@@ -8,9 +8,9 @@ ghost use Rattle.plan.specs.Plan.{Cased};
 ghost use Rattle.sizing.specs.Places.{crosses_at, end_at, Formed, Reaching, Placing, Placed};
 ghost use Rattle.sizing.specs.Sizes.{limit_of, Sizable, SizedAs};
 
-use layout::{both, either, least, pick, wide32};
+use layout::{both, either, pick, wide32};
 use packet::At;
-use plan::{Plan, behind, cased, header, streamed};
+use plan::{FRAME, MULTIPLE, Plan, SINGLE, STREAMING, streamed};
 
 // Where a message comes to stand, and the place behind it.
 #[derive(Clone, Copy)]
@@ -33,8 +33,8 @@ fn crosses(p: Plan, whole: usize, a: At) -> bool
     requires { Reaching p whole a }
     ensures { result ≡ crosses_at p whole a }
 {
-    let reach = a.q + pick(p.layout == 1, whole, p.size);
-    both(p.layout < 3, either(p.layout == 0, a.end < reach))
+    let reach = a.q + pick(p.layout == MULTIPLE, whole, p.size);
+    both(p.layout < FRAME, either(p.layout == SINGLE, a.end < reach))
 }
 
 // The end of the data packet in which a place stands, behind one whose data packet has this end. Only a stream enters another one.
@@ -42,7 +42,7 @@ fn end_of(p: Plan, end: usize, q: usize) -> usize
     requires { Streaming p.datapacket end q }
     ensures { result ≡ end_at p end q }
 {
-    if p.layout == 2 {
+    if p.layout == STREAMING {
         return streamed(p.datapacket, end, q);
     }
     end
@@ -53,9 +53,9 @@ pub fn place(p: Plan, a: At, n: usize) -> Spot
     requires { Placing p a n }
     ensures { Placed p a n result }
 {
-    let whole = behind(p, p.size + n);
+    let whole = p.behind(p.size + n);
     let over = crosses(p, whole, a);
-    let from = pick(over, a.end, header(p, a.q));
+    let from = pick(over, a.end, p.header(a.q));
     let q = from + whole;
     let end = end_of(p, pick(over, a.end + p.datapacket, a.end), q);
     Spot {
@@ -69,56 +69,47 @@ fn limit(p: Plan) -> usize
     requires { Formed p }
     ensures { result ≡ limit_of p }
 {
-    if p.layout < 2 {
-        return least(p.longest, p.datapacket - p.size);
+    if p.layout < STREAMING {
+        return p.longest.min(p.datapacket - p.size);
     }
     p.longest
 }
 
-// Goes through the lengths from a first place on, and writes nothing. It stops at the first that does not fit.
-pub fn size_loop(
-    layout: usize,
-    lenwidth: usize,
-    ctrwidth: usize,
+// Goes through the lengths from a first place on, and writes nothing. It stops at the first that does not fit. Size and alignment are the plan's own:
+// whoever knows them says them by literals.
+#[tactic(auto, using(crate::proofs::SizeLaws::sizes))]
+pub fn size_loop<const LAYOUT: usize>(
     size: usize,
     align: usize,
     plan: Plan,
     q: usize,
     lengths: &[u32],
 ) -> Sized
-    requires cased { Cased layout lenwidth ctrwidth size align plan }
+    requires cased { Cased LAYOUT plan.lenwidth plan.ctrwidth size align plan }
     requires sizable { Sizable plan q lengths.now }
     ensures { SizedAs plan q lengths.now result }
 {
-    let p = cased(layout, lenwidth, ctrwidth, size, align, plan);
+    let p = plan.cased(LAYOUT, plan.lenwidth, plan.ctrwidth, size, align);
     let limit = limit(p);
-    let mut a = At { q, end: 0 };
-    let mut sum: usize = 0;
-    let mut i: usize = 0;
-    while i < lengths.len() {
-        let n = wide32(lengths[i]);
+    let mut z = Sized {
+        taken: 0,
+        sum: 0,
+        behind: At { q, end: 0 },
+    };
+    for length in lengths {
+        let n = wide32(*length);
         if either(n == 0, limit < n) {
-            return Sized {
-                taken: i,
-                sum,
-                behind: a,
-            };
+            return z;
         }
-        let s = place(p, a, n);
-        if both(p.layout == 3, p.datapacket < s.next.q) {
-            return Sized {
-                taken: i,
-                sum,
-                behind: a,
-            };
+        let s = place(p, z.behind, n);
+        if both(p.layout == FRAME, p.datapacket < s.next.q) {
+            return z;
         }
-        a = s.next;
-        sum += n;
-        i += 1;
+        z = Sized {
+            taken: z.taken + 1,
+            sum: z.sum + n,
+            behind: s.next,
+        };
     }
-    Sized {
-        taken: i,
-        sum,
-        behind: a,
-    }
+    z
 }

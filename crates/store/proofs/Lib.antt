@@ -1,3 +1,2 @@
-pub mod FewLaws
 pub mod OverLaws
 pub mod StoreLaws

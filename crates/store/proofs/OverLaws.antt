@@ -6,6 +6,7 @@ use mathlib.Core.Path.{◌≡◌, refl, sym, ap, ◌∙◌}
 use mathlib.Core.List.{List, [], ◌∷◌, ◌++◌, append-nil}
 use lib.ListN.{length, set, take, drop, replicate, length-take, length-drop, length-replicate, drop_of_length-le}
 use lib.Seq.{sets, take_all, set-set}
+use Rattle.std.proofs.lemmas.List.{take-replicate, drop-replicate}
 use Rattle.store.specs.Store.{block}
 use Rattle.store.proofs.StoreLaws.{set_before}
 
@@ -53,16 +54,6 @@ part_ends bs out at k m l h x e y z =
 
 ---- Free bytes -----------------------------------------------------------------------------------------------------------------
 
-take-replicate : (k n b : ℕ) → k ≤ n → take k (replicate n b) ≡ replicate k b
-take-replicate zero n b h = refl
-take-replicate (suc k) zero b h = absurd (omega arith)
-take-replicate (suc k) (suc n) b h = rw (take-replicate k n b (omega arith))
-
-pub drop-replicate : (k n b : ℕ) → drop k (replicate n b) ≡ replicate (n - k) b
-drop-replicate zero n b = let e : n - 0 ≡ n = omega arith in rw e
-drop-replicate (suc k) zero b = let e : 0 - suc k ≡ 0 = omega arith in rw e
-drop-replicate (suc k) (suc n) b = let e : suc n - suc k ≡ n - k = omega arith in rw e (drop-replicate k n b)
-
 -- of n free bytes the first m are put, and then the last m
 pub fill_ends : (out : List ℕ) (at n m b : ℕ) → m ≤ n → n ≤ m + m → {one two : List ℕ} {p : ℕ}
     → one ≡ sets out at (replicate m b) → p ≡ at + (n - m) → two ≡ sets one p (replicate m b) → two ≡ sets out at (replicate n b)
@@ -70,5 +61,5 @@ fill_ends out at n m b l h x e z =
     let f : List ℕ = replicate n b in
     let d : length f ≡ n = length-replicate n b in
     let r : n - (n - m) ≡ m = omega arith in
-    let t : replicate m b ≡ block f (length f - m) m = sym (rw (d, drop-replicate (n - m) n b, r) (take-replicate m m b (omega arith))) in
+    let t : replicate m b ≡ block f (length f - m) m = sym (rw (d, drop-replicate, r) (take-replicate m m b (omega arith))) in
     part_ends f out at m m (omega arith) (omega arith) (x ∙ rw (take-replicate m n b l)) (e ∙ rw d) t z

@@ -17,15 +17,14 @@ fn put_few(out: &mut [u8], at: usize, n: usize, first: u8, middle: u8, last: u8)
     out[at + n - 1] = last;
 }
 
-// Puts n free bytes from a place on: by one store where n is known at the call, else by a call of memset.
+// Puts n free bytes from a place on: by one store where n is known at the call, else by a call of memset. Tried: by the slice's `fill` the last
+// byte goes by a store of its own, behind two tests of n.
 pub fn set(out: &mut [u8], at: usize, n: usize, free: u8)
     requires { Inside out.old at n }
     ensures { out.new ≡ sets out.old at (replicate n free) }
 {
-    let mut i: usize = 0;
-    while i < n {
-        out[at + i] = free;
-        i += 1;
+    for byte in &mut out[at..at + n] {
+        *byte = free;
     }
 }
 
@@ -57,28 +56,16 @@ pub fn fill(out: &mut [u8], at: usize, n: usize, free: u8)
     set(out, at, n, free);
 }
 
-// Copies n bytes of a part one by one.
-fn copy_each(out: &mut [u8], at: usize, part: &[u8], from: usize, n: usize)
-    requires { Copyable out.old at part.now from n }
-    ensures { out.new ≡ sets out.old at (block part.now from n) }
-{
-    let mut i: usize = 0;
-    while i < n {
-        out[at + i] = part[from + i];
-        i += 1;
-    }
-}
-
 // Copies n bytes of a part by a block of its own. All bytes are read before one is written, and nothing else tells the compiler that what
 // is read and what is written lie apart: it leaves the block out and moves the bytes at once, by a few moves where n is known at the call,
-// else by a call of memmove.
+// else by a call of memmove. Tried: copied with no block, each call tests whether they do, and has loops of bytes for where they do not.
 fn copy(out: &mut [u8], at: usize, part: &[u8], from: usize, n: usize)
     requires { Copyable out.old at part.now from n }
     ensures { out.new ≡ sets out.old at (block part.now from n) }
 {
     let mut block: [u8; 65536] = [0; 65536];
-    copy_each(&mut block, 0, part, from, n);
-    copy_each(out, at, &block, 0, n);
+    block[..n].copy_from_slice(&part[from..from + n]);
+    out[at..at + n].copy_from_slice(&block[..n]);
 }
 
 // Copies a packet of m to twice as many bytes: the first m and the last m, which may lie over the first.

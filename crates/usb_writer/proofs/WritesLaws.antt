@@ -1,5 +1,5 @@
 -- What is written by the plan of a setting is what the definition says.
-use Prim.Native.Nat.{ℕ}
+use Prim.Native.Nat.{ℕ, ◌<◌}
 use mathlib.Core.Path.{◌≡◌, sym, ◌∙◌}
 use mathlib.Core.Bool.{Bool, true}
 use mathlib.Core.List.{List}
@@ -40,7 +40,11 @@ module _ (bs ns : List ℕ) (c fill : ℕ) (full : Bool) (out : List ℕ) where
     unfolding write_of composed weighed settled
     unsound e = rw (unplanned s (sym e ∙ i))
 
-pub planned : (s : Setting) {r : Option Plan} {p : Plan} → r ≡ planned_of s → r ≡ Some p → Messages p
-planned s i e = messages (planned-ready (sym e ∙ i)).1
+module _ (s : Setting) {r : Option Plan} {p : Plan} (i : r ≡ planned_of s) (e : r ≡ Some p) where
+  pub planned : Messages p
+  planned = messages (planned-ready (sym e ∙ i)).1
+
+  pub packed : p.layout < 3
+  packed = (planned-ready (sym e ∙ i)).1.layout
 
 pub ruleset plans = (rules, gives_so, planned, sound_so, unsound)

@@ -91,9 +91,10 @@ pub record Writing (p : Plan) (b : Begin) (bs ns old out : List ℕ) (a : At) (c
   pub counter : later p.ctrwidth (length ns) b.ctr ≡ later p.ctrwidth (length (drop i ns)) c
   pub long : length out ≡ length old
 
-module _ {p : Plan} {b : Begin} {bs ns old : List ℕ} where
-  pub writing : Writable p b bs ns (length old) → Writing p b bs ns old old (first b.q) b.ctr 0 0
-  writing h =
+module _ {p plan : Plan} (o : p ≡ plan) {b : Begin} {bs ns old : List ℕ} where
+  pub writing : Writable plan b bs ns (length old) → Writing p b bs ns old old (first b.q) b.ctr 0 0
+  writing k =
+      let h : Writable p b bs ns (length old) = rw o k in
       record {
         writable = h;
         held = h.held;
@@ -107,15 +108,17 @@ module _ {p : Plan} {b : Begin} {bs ns old : List ℕ} where
         long = refl;
       }
 
+  pub writing_done : {out : List ℕ} {a : At} {c from i : ℕ} → Writing p b bs ns old out a c from i → length ns ≤ i → Wrote plan b bs ns old out c
+  unfolding later packets bytes_from
+  writing_done {out} {c = c} {i = i} w l =
+      let none = none_left ns i l in
+      let r : Wrote p b bs ns old out c = record { bytes = sym (w.bytes ∙ rw none); counter = sym (w.counter ∙ rw none) } in
+      rw o at r
+
+module _ {p : Plan} {b : Begin} {bs ns old : List ℕ} where
   module _ {out : List ℕ} {a : At} {c from i : ℕ} (w : Writing p b bs ns old out a c from i) where
     abbrev h : Writable p b bs ns (length old)
     h = w.writable
-
-    pub writing_done : length ns ≤ i → Wrote p b bs ns old out c
-    unfolding later packets bytes_from
-    writing_done l =
-        let none = none_left ns i l in
-        record { bytes = sym (w.bytes ∙ rw none); counter = sym (w.counter ∙ rw none) }
 
     -- the counter is one that a message can say
     pub said : Said p.ctrwidth c

@@ -10,7 +10,7 @@ use mathlib.Core.List.{List, ◌++◌, append-nil, append_assoc}
 use lib.ListN.{length, take, drop, set, replicate, length-append, length-replicate}
 use lib.Seq.{sets, sets-eq, take_all, length-take-le, set-set}
 use lib.Dec.{eqb, leb, ltb}
-use borrow.Author.Tests.{leb-true, leb-false, eqb-true, eqb-false, ne_eqb, le-leb, lt-leb, ltb-true, ltb-false, lt-ltb, le-ltb}
+use borrow.Author.Tests.{leb-true, leb-false, eqb-true, eqb-false, ne_eqb, lt-leb, ltb-true, ltb-false}
 use Rattle.layout.specs.Field.{bytes}
 use Rattle.layout.specs.Leaf.{Within}
 use Rattle.layout.specs.Multiple.{pad, Aligned}
@@ -22,8 +22,9 @@ use Rattle.plan.specs.declared.Plan.{Plan}
 use Rattle.plan.specs.Place.{rests, behind_at, Beyond}
 use Rattle.plan.proofs.CaseLaws.{by_test}
 use Rattle.plan.proofs.PlaceLaws.{behind-on, untailed as align-one}
-use Rattle.store.specs.Store.{Inside, Short}
-use Rattle.store.proofs.OverLaws.{drop-replicate, front_over, fill_ends}
+use Rattle.store.specs.Store.{Short}
+use Rattle.std.proofs.lemmas.List.{drop-replicate}
+use Rattle.store.proofs.OverLaws.{front_over}
 use Rattle.store.proofs.StoreLaws.{sets-within, lent-rest}
 use Rattle.sizing.specs.Places.{whole_of, Formed}
 use Rattle.writing.specs.Bytes.{rest_bytes, head_bytes, message_bytes, last_of, over, Skipping, Headed, Tailing, Fitting, Passing}
@@ -125,36 +126,6 @@ pad-one {a} (inl e) l x = omega (arith, pad_less a x (omega arith))
 pad-one {a} (inr (inl e)) l x = omega (arith, pad_less a x (omega arith))
 pad-one (inr (inr (inl e))) l x = absurd (omega arith)
 pad-one (inr (inr (inr e))) l x = absurd (omega arith)
-
-module _ {p : Plan} {out : List ℕ} {end : ℕ} (t : Tailing p out end) (free : ℕ) where
-  pub tail_none : 2 < p.layout → out ≡ sets out (end - last_of p) (replicate (last_of p) free)
-  tail_none h = rw (lt-ltb 2 p.layout h)
-
-  module _ (f : p.layout ≤ 2) where
-    pub tail_byte : p.align < 4 → set out (end - 1) free ≡ sets out (end - last_of p) (replicate (last_of p) free)
-    tail_byte h = rw (le-ltb 2 p.layout f, lt-leb 4 p.align h)
-
-    pub tail_ends : 4 ≤ p.align → {one two : List ℕ} → one ≡ sets out (end - p.align) (replicate 4 free)
-        → two ≡ sets one (end - 4) (replicate 4 free) → two ≡ sets out (end - last_of p) (replicate (last_of p) free)
-    tail_ends h x y =
-        let l = t.reached f in
-        rw (le-ltb 2 p.layout f, le-leb 4 p.align h)
-        (fill_ends out (end - p.align) p.align 4 free h (omega (arith, (aligned_power t.formed.sized.aligned).high)) x (omega arith) y)
-
--- both runs of four lie before the end
-module _ {p : Plan} {out : List ℕ} {end : ℕ} (t : Tailing p out end) (f : p.layout ≤ 2) where
-  pub tail_starts : p.align ≤ end
-  tail_starts = t.reached f
-
-  module _ (h : 4 ≤ p.align) where
-    pub tail_four : 4 ≤ end
-    tail_four = let l = t.reached f in omega arith
-
-    pub tail_front : Inside out (end - p.align) 4
-    tail_front = let l = t.reached f in record { room = omega (arith, t.room) }
-
-    pub tail_back : {one : List ℕ} → length one ≡ length out → Inside one (end - 4) 4
-    tail_back e = let l = t.reached f in record { room = omega (arith, t.room) }
 
 module _ {p : Plan} (k : Formed p) where
   -- data packets' messages may have a tail, those of a frame and of a datagram have none
@@ -263,7 +234,5 @@ one-put {p} {out} {q} {from} h free msg {one} x y =
 pub ruleset rested = (rules, rest-none, rest_field, rest_free, rest-zeroed)
 
 pub ruleset passed = (rules, skip_few, rest-few)
-
-pub ruleset tails = (rules, tail_none, tail_starts, tail_four, tail_front, tail_back, tail_ends, tail_byte)
 
 pub ruleset messages = (rules, head-put, tailing, heading, message-put, one-put)

@@ -1,5 +1,4 @@
-// Writing, once for every layout: 0 single, 1 multiple, 2 streaming, 3 frame, 4 datagram. Whoever calls the loop says its case by literals, and the
-// compiler makes a loop for each.
+// Writing, once for every layout. The loop has its case, the layout and the bytes of LEN and of CTR, for const parameters, so there is one for each.
 #![tactic(auto)]
 
 ghost use Rattle.std.specs.Prelude.{◌≡◌, ◌++◌, ◌-◌, length, take, replicate};
@@ -9,8 +8,9 @@ ghost use Rattle.writing.specs.Bytes.{rest_bytes, head_bytes, message_bytes, las
 ghost use Rattle.writing.specs.Puts.{Writable, Wrote};
 
 use layout::{both, put_field, wide32};
+use lengths::Packets;
 use packet::At;
-use plan::{Plan, behind, cased, rests};
+use plan::{DATAGRAM, FRAME, Plan, STREAMING};
 use rows::after;
 use sizing::place;
 use store::{fill_few, put_first, set};
@@ -25,6 +25,7 @@ pub struct Begin {
 
 // Writes a rest of n bytes, which starts with a zero LEN where the layout has rests and a header fits. What a single message leaves is free, and so
 // is what is passed over in a frame.
+#[tactic(auto, using(crate::proofs::PutLaws::rested))]
 pub fn put_rest(p: Plan, out: &mut [u8], at: usize, n: usize, free: u8)
     requires { Resting p out.old at n }
     ensures { out.new ≡ sets out.old at (rest_bytes p free n) }
@@ -33,7 +34,7 @@ pub fn put_rest(p: Plan, out: &mut [u8], at: usize, n: usize, free: u8)
         return;
     }
     set(out, at, n, free);
-    if both(rests(p), p.size <= n) {
+    if both(p.rests(), p.size <= n) {
         put_field(out, at, p.lenwidth, 0);
         return;
     }
@@ -41,11 +42,12 @@ pub fn put_rest(p: Plan, out: &mut [u8], at: usize, n: usize, free: u8)
 
 // Writes what is passed over before a message: in a stream a few free bytes, in which no header fits, in a frame those that align a packet, and in a
 // datagram none.
+#[tactic(auto, using(crate::proofs::PutLaws::passed))]
 fn put_passed(p: Plan, out: &mut [u8], at: usize, n: usize, free: u8)
     requires { Skipping p out.old at n }
     ensures { out.new ≡ sets out.old at (rest_bytes p free n) }
 {
-    if p.layout < 2 {
+    if p.layout < STREAMING {
         put_rest(p, out, at, n, free);
         return;
     }
@@ -65,6 +67,7 @@ fn put_free(out: &mut [u8], at: usize, n: usize, free: u8)
 }
 
 // Writes a header at the front: LEN, CTR, free bytes.
+#[tactic(auto, using(crate::proofs::PutLaws::messages))]
 fn put_header(p: Plan, out: &mut [u8], n: usize, ctr: u32, free: u8)
     requires { Headed p out.old }
     ensures { out.new ≡ sets out.old 0 (head_bytes p free ctr n) }
@@ -84,7 +87,7 @@ fn put_tail(p: Plan, out: &mut [u8], end: usize, free: u8)
     requires { Tailing p out.old end }
     ensures { out.new ≡ sets out.old (end - last_of p) (replicate (last_of p) free) }
 {
-    if 2 < p.layout {
+    if STREAMING < p.layout {
         return;
     }
     if 4 <= p.align {
@@ -98,17 +101,26 @@ fn put_tail(p: Plan, out: &mut [u8], end: usize, free: u8)
 // Writes a message at the front: its tail, header and packet, the first n bytes of those left. In a datagram more of them may go, which the next message
 // is written over. A frame's packet is likely short. With either for the others the loop would be so dear that the compiler makes no loop for
 // each case.
+#[tactic(auto, using(crate::proofs::PutLaws::messages))]
 fn put_message(p: Plan, out: &mut [u8], left: &[u8], n: usize, ctr: u32, free: u8)
     requires { Fitting p out.old left.now n }
     ensures { out.new ≡ sets out.old 0
         (message_bytes p free ctr (take n left.now) ++ over p n left.now) }
 {
-    put_tail(p, out, behind(p, p.size + n), free);
+    put_tail(p, out, p.behind(p.size + n), free);
     put_header(p, out, n, ctr, free);
-    put_first(p.layout == 4, p.layout == 3, out, p.size, left, n);
+    put_first(
+        p.layout == DATAGRAM,
+        p.layout == FRAME,
+        out,
+        p.size,
+        left,
+        n,
+    );
 }
 
 // Writes a message where it comes to stand, behind what is passed over from q on. It is handed the rest of the output.
+#[tactic(auto, using(crate::proofs::PutLaws::messages))]
 fn put_one(
     p: Plan,
     out: &mut [u8],
@@ -127,37 +139,31 @@ fn put_one(
     put_message(p, &mut out[from..], left, n, ctr, free);
 }
 
-// Writes messages from a place on, and gives the counter behind them.
-pub fn put_loop(
-    layout: usize,
-    lenwidth: usize,
-    ctrwidth: usize,
+// Writes messages from a place on, and gives the counter behind them. Size and alignment are the plan's own: whoever knows them says them by literals.
+pub fn put_loop<const LAYOUT: usize, const LENWIDTH: usize, const CTRWIDTH: usize>(
     size: usize,
     align: usize,
     plan: Plan,
     b: Begin,
-    packets: &[u8],
-    lengths: &[u32],
+    packets: Packets,
     out: &mut [u8],
 ) -> u32
-    requires cased { Cased layout lenwidth ctrwidth size align plan }
-    requires writable { Writable plan b packets.now lengths.now (length out.old) }
-    ensures { Wrote plan b packets.now lengths.now out.old out.new result }
+    requires cased { Cased LAYOUT LENWIDTH CTRWIDTH size align plan }
+    requires writable { Writable plan b packets.bytes.now packets.lengths.now (length out.old) }
+    ensures { Wrote plan b packets.entry.bytes.now packets.entry.lengths.now out.old out.new result }
 {
-    let p = cased(layout, lenwidth, ctrwidth, size, align, plan);
+    let p = plan.cased(LAYOUT, LENWIDTH, CTRWIDTH, size, align);
     let mut a = At { q: b.q, end: 0 };
     let mut c = b.ctr;
-    let mut from: usize = 0;
-    let mut i: usize = 0;
-    while i < lengths.len() {
-        let n = wide32(lengths[i]);
+    let mut from = 0;
+    for length in packets.lengths {
+        let n = wide32(*length);
         let s = place(p, a, n);
-        let left = &packets[from..];
+        let left = &packets.bytes[from..];
         put_one(p, out, a.q, s.from, left, n, c, b.free);
         c = after(p.ctrwidth, c);
         a = s.next;
         from += n;
-        i += 1;
     }
     c
 }

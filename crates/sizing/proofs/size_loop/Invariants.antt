@@ -1,10 +1,6 @@
-use Prim.Native.Nat.{◌-◌}
-use lib.ListN.{length}
+-- The lengths before the index are taken.
 use Rattle.sizing.proofs.SizeLaws.{Sizing}
 use Rattle.sizing.proofs.size_loop.Given as goal
 
-abbrev pub invariant-loop-i : goal.invariant-loop-i
-invariant-loop-i l = Sizing l.p l.q l.lengths l.a l.sum l.i
-
-abbrev pub decreases-loop-i : goal.decreases-loop-i
-decreases-loop-i l = length l.lengths - l.i
+abbrev pub invariant-loop-length : goal.invariant-loop-length
+invariant-loop-length g l = Sizing l.p l.q l.lengths l.z l.length-index

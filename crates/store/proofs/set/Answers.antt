@@ -1,16 +1,16 @@
--- Each turn puts one byte more.
+-- All bytes are put: the part is free.
 use native.Mathlib.Omega.{arith}
-use lib.ListN.{length-replicate, get_or-replicate}
-use Rattle.store.proofs.StoreLaws.{put-none, put_next, put_all}
+use mathlib.Core.Path.{sym, ◌∙◌}
+use lib.ListN.{replicate, length-replicate, get_or-replicate}
+use lib.Seq.{ext_get_or}
+use Rattle.store.proofs.StoreLaws.{part_put}
 use Rattle.store.proofs.set.Goals as goal
 
-pub loop-i-init : goal.loop-i-init
-loop-i-init c = put-none (length-replicate _ _)
-
-pub loop-i-preserved : goal.loop-i-preserved
-loop-i-preserved c =
-    let a = c.args in
-    put_next c.loop-i.invariant (omega arith) (rw (get_or-replicate a.n c.loop-i.i a.free 0 (omega arith)))
-
 pub returns : goal.returns
-returns c = put_all c.loop-i.invariant (omega arith)
+returns c =
+    let a = c.args in
+    let l = length-replicate a.n a.free in
+    let (m, same) = c.loop-byte.invariant in
+    let e = ext_get_or 0 c.loop-byte.byte-items (replicate a.n a.free) (m ∙ sym l)
+    (λ k h. same k (omega arith) ∙ sym (get_or-replicate a.n k a.free 0 (omega arith))) in
+    part_put a.out.now _ a.at a.n (omega arith) l e

@@ -1,11 +1,8 @@
 -- Each turn puts one byte more.
-use Prim.Native.Nat.{◌-◌}
-use lib.ListN.{replicate}
-use Rattle.store.proofs.StoreLaws.{Put}
+use Prim.Native.Nat.{ℕ, ◌<◌}
+use mathlib.Core.Path.{◌≡◌}
+use lib.ListN.{length, get_or}
 use Rattle.store.proofs.set.Given as goal
 
-abbrev pub invariant-loop-i : goal.invariant-loop-i
-invariant-loop-i l = Put l.initial.out l.at (replicate l.n l.free) l.n l.out l.i
-
-abbrev pub decreases-loop-i : goal.decreases-loop-i
-decreases-loop-i l = l.n - l.i
+abbrev pub invariant-loop-byte : goal.invariant-loop-byte
+invariant-loop-byte l = (length l.byte-items ≡ l.n) × ((k : ℕ) → k < l.byte-index → get_or l.byte-items k 0 ≡ l.free)

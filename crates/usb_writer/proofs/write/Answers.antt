@@ -1,33 +1,16 @@
--- The plan decides.
-use Rattle.usb_writer.proofs.WritesLaws.{plans}
+-- The plan is one of messages in data packets.
+use Rattle.std.proofs.Common.{arith}
+use Rattle.usb_writer.proofs.WritesLaws.{planned, packed}
 use Rattle.usb_writer.proofs.write.Goals as goal
 
-pub plan_for-requires : goal.plan_for-requires
-plan_for-requires c = search plans
+pub write-requires-clause-messages : goal.write-requires-clause-messages
+write-requires-clause-messages c = planned c.args.s c.plan_for.ensures c.in_ok-p.ensures.ok_part
 
-pub enum_known-p : goal.enum_known-p
-enum_known-p c = search plans
+pub write-requires-in-1-clause-messages : goal.write-requires-in-1-clause-messages
+write-requires-in-1-clause-messages c = planned c.args.s c.plan_for.ensures c.in_ok-p.ensures.ok_part
 
-pub weigh-w-requires : goal.weigh-w-requires
-weigh-w-requires c = search plans
+pub write-requires-in_default-clause-layout_value : goal.write-requires-in_default-clause-layout_value
+write-requires-in_default-clause-layout_value c = omega (arith, packed c.args.s c.plan_for.ensures c.in_ok-p.ensures.ok_part)
 
-pub write_weighed-requires : goal.write_weighed-requires
-write_weighed-requires c = search plans
-
-pub enum_told-1 : goal.enum_told-1
-enum_told-1 c = search plans
-
-pub refuse-requires : goal.refuse-requires
-refuse-requires c = search plans
-
-pub shape_of-out-in-Sound : goal.shape_of-out-in-Sound
-shape_of-out-in-Sound c = search plans
-
-pub returns-in-Sound : goal.returns-in-Sound
-returns-in-Sound c = search plans
-
-pub shape_of-out-in-Unsound : goal.shape_of-out-in-Unsound
-shape_of-out-in-Unsound c = search plans
-
-pub returns-in-Unsound : goal.returns-in-Unsound
-returns-in-Unsound c = search plans
+pub write-requires-in_default-clause-messages : goal.write-requires-in_default-clause-messages
+write-requires-in_default-clause-messages c = planned c.args.s c.plan_for.ensures c.in_ok-p.ensures.ok_part
