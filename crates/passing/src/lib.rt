@@ -120,13 +120,14 @@ fn close(t: &[u8], q: usize, names: &mut Names) -> Result<usize, Wrong>
     }
 }
 
-// A word inside a block, and the name behind it where it opens or closes another.
+// A word inside a block, and the name behind it where it opens or closes another. This is what reading over a block does again and again, so the word is
+// told apart here and not by `next_sign`: one call less for each word.
 fn go_on(t: &[u8], q: usize, names: &mut Names) -> Result<usize, Wrong>
     requires { (0 < names.old.depth) × Held t.now names.old 0 q }
     ensures { Turned t.now q (inside_of t.now names.old) names.new result }
 {
-    let (sign, word) = next_sign(t, q)?;
-    match sign {
+    let word = needed_word(t, q)?;
+    match sign_of(word.bytes(t)) {
         Sign::Begin => open(t, word.to, names),
         Sign::End => close(t, word.to, names),
         Sign::Other => Ok(word.to),
