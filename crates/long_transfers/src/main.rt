@@ -16,9 +16,10 @@ fn refused(rt: &HostRuntime, refusal: Refusal) -> Result<()> {
 
 // Whether the packets of the rows are these, of 60 bytes each.
 fn kept(t: &[u8], rows: &[u32], packets: &[u8]) -> bool {
-    rows.chunks_exact(5)
-        .zip(packets.chunks_exact(60))
-        .all(|(row, packet)| part(t, row[0], row[1]) == packet)
+    rows.chunks_exact(5).zip(packets.chunks_exact(60)).all(|(row, packet)| match row {
+        [place, length, ..] => part(t, *place, *length) == packet,
+        _ => false,
+    })
 }
 
 // What was read of a transfer: its row count, its last row, and whether the packets were kept; or its refusal.
