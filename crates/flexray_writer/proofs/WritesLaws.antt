@@ -16,6 +16,9 @@ use Rattle.lengths.proofs.LengthsLaws as M
 use Rattle.packet.specs.Writing.{Writing, Writing as TheWriting}
 use Rattle.packet.specs.Answer as A
 use Rattle.packet.specs.Answer.{Answer, Gives, write_refused}
+use Rattle.packet.specs.declared.Reason.{Reason}
+use Rattle.packet.specs.declared.Refusal.{Refusal}
+use Rattle.packet.specs.Said.{number_of, refusal_at}
 use Rattle.packet.specs.Counter.{holds, later}
 use Rattle.packet.specs.Limit.{most_lengths, most_bytes}
 use Rattle.packet.specs.Packets.{packets, mismatched, first as first_of}
@@ -152,9 +155,9 @@ module _ (s : Setting) {x : Option Plan} (e : x ≡ planned_of s) where
     pub by_plan : {p : Plan} → x ≡ Some p → Gives (write_of (setting p) bs ns c free out) r new → Gives (write_of s bs ns c free out) r new
     by_plan f w = rw (plan_is f).0 at w
 
-    pub unsound : x ≡ None → Gives (write_refused out 1 0) r new → Gives (write_of s bs ns c free out) r new
-    unfolding write_of composed
-    unsound f = gives_so (L.unsound (call s c free bs ns) out (unplanned s (sym f ∙ e)))
+  pub unsound : (c free : ℕ) (bs ns out : List ℕ) → x ≡ None → write_of s bs ns c free out ≡ write_refused out 1 0
+  unfolding write_of composed
+  unsound c free bs ns out f = L.unsound (call s c free bs ns) out (unplanned s (sym f ∙ e))
 
 module _ (p : Plan) (b : Begin) (bs ns out : List ℕ) where
   abbrev answer : Answer Writing
@@ -221,7 +224,13 @@ module _ (p : Plan) (b : Begin) (bs ns out : List ℕ) where
         gives_so weighed_so
         (L.written w out (ready k.begun.ready k.held) matched index (long f) room most i (u.is ∙ rw k.begun.ready.ctrwidth))
 
+-- a refusal of the whole call
+pub refusing : {out : List ℕ} {r : Refusal} {y : Reason} {i : ℕ} → r ≡ refusal_at y i
+    → Gives (write_refused out (number_of y) i) (TheWriting.Refused (number_of r.reason) r.place) out
+refusing e = rw e (record { answer = refl; lent = refl })
+
 ---- For search -----------------------------------------------------------------------------------------------------------------
 
-pub ruleset writes =
-    (rules, counted, fitted, roomy, composed-is, least, begun, by_plan, unsound, over, uncounted, unfit, unlike, crowded, written)
+pub ruleset plans = (rules, gives_so, least, begun, by_plan, unsound)
+
+pub ruleset writes = (rules, roomy, composed-is)

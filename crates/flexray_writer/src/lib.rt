@@ -4,6 +4,7 @@
 ghost use Rattle.std.specs.Prelude.{◌≡◌, cond, ◌||◌, ltb, length};
 ghost use Rattle.std.proofs.lemmas.List.Edits.{sets};
 ghost use Rattle.packet.specs.Answer.{Gives};
+ghost use Rattle.packet.specs.Said.{write_said};
 ghost use Rattle.packet.specs.Limit.{most_lengths};
 ghost use Rattle.packet.specs.Packets.{packets as packets_of};
 ghost use Rattle.flexray.specs.Writing.{frame, evening, miscounted as miscounted_of, write_of};
@@ -15,9 +16,9 @@ ghost use Rattle.flexray_writer.specs.Writes.{Sizing, Putting, head_bytes, Leadi
 use flexray::Setting;
 use flexray_plan::{further, plan_for, start};
 use layout::{both, either, put_field, wide32};
-use lengths::{crowded, refuse, refuse_misfit};
-use packet::Writing;
-use plan::{Plan, Planned};
+use lengths::{Packets, crowded};
+use packet::{Reason, Refusal, Written};
+use plan::{FRAME, Plan};
 use rows::{after, holds};
 use sizing::{Sized, size_loop};
 use store::fill;
@@ -38,20 +39,20 @@ fn size(p: Plan, q: usize, lengths: &[u32]) -> Sized
     ensures { SizedAs p q lengths.now result }
 {
     if p.align == 1 {
-        return size_loop(3, 1, 0, 1, 1, p, q, lengths);
+        return size_loop::<FRAME>(1, 1, p, q, lengths);
     }
-    size_loop(3, 1, 0, 1, p.align, p, q, lengths)
+    size_loop::<FRAME>(1, p.align, p, q, lengths)
 }
 
 // Writes packets, each behind its LEN.
-fn put_packets(p: Plan, b: Begin, packets: &[u8], lengths: &[u32], out: &mut [u8]) -> u32
-    requires { Putting p b packets.now lengths.now (length out.old) }
-    ensures { Wrote p b packets.now lengths.now out.old out.new result }
+fn put_packets(p: Plan, b: Begin, packets: Packets, out: &mut [u8]) -> u32
+    requires { Putting p b packets.bytes.now packets.lengths.now (length out.old) }
+    ensures { Wrote p b packets.entry.bytes.now packets.entry.lengths.now out.old out.new result }
 {
     if p.align == 1 {
-        return put_loop(3, 1, 0, 1, 1, p, b, packets, lengths, out);
+        return put_loop::<FRAME, 1, 0>(1, 1, p, b, packets, out);
     }
-    put_loop(3, 1, 0, 1, p.align, p, b, packets, lengths, out)
+    put_loop::<FRAME, 1, 0>(1, p.align, p, b, packets, out)
 }
 
 // Writes the header at the front: the node first, CTR behind it, LEN at the header's end, free bytes between.
@@ -76,6 +77,7 @@ fn even_byte(zero: bool, free: u8) -> u8
 }
 
 // Makes a frame even whose last packet ends at e: the byte behind it is zero where the next LEN would stand, else free.
+#[tactic(auto, using(crate::proofs::HeaderLaws::evenings))]
 fn put_evening(p: Plan, out: &mut [u8], e: usize, free: u8)
     requires { Evening p out.old e }
     ensures { out.new ≡ sets out.old e (evening (setting p) free e) }
@@ -88,73 +90,66 @@ fn put_evening(p: Plan, out: &mut [u8], e: usize, free: u8)
 }
 
 // Writes packets of which the last ends at a place, the byte that evens the frame, and the header over what stands for the first packet's LEN.
-fn compose(p: Plan, b: Begin, packets: &[u8], lengths: &[u32], end: usize, out: &mut [u8])
-    requires { Roomy p b packets.now lengths.now end (length out.old) }
+#[tactic(auto, using(crate::proofs::WritesLaws::writes))]
+fn compose(p: Plan, b: Begin, packets: Packets, end: usize, out: &mut [u8])
+    requires { Roomy p b packets.bytes.now packets.lengths.now end (length out.old) }
     ensures { out.new ≡ sets out.old 0
-        (frame (setting p) b.free b.ctr (packets_of lengths.now packets.now)) }
+        (frame (setting p) b.free b.ctr (packets_of packets.entry.lengths.now packets.entry.bytes.now)) }
 {
-    put_packets(further(p), b, packets, lengths, out);
+    put_packets(further(p), b, packets, out);
     put_evening(p, out, end, b.free);
-    put_header(p, out, wide32(lengths[0]), b.ctr, b.free);
+    put_header(p, out, wide32(packets.lengths[0]), b.ctr, b.free);
 }
 
 // Lengths that fit: the last packet ends at a place.
 fn write_fitted(
     p: Plan,
     b: Begin,
-    packets: &[u8],
-    lengths: &[u32],
+    packets: Packets,
     end: usize,
     out: &mut [u8],
-) -> Writing
-    requires { Fitted p b packets.now lengths.now end }
-    ensures { Gives (write_of (setting p) packets.now lengths.now b.ctr b.free out.old)
-        result out.new }
+) -> Result<Written, Refusal>
+    requires { Fitted p b packets.bytes.now packets.lengths.now end }
+    ensures { Gives (write_of (setting p) packets.entry.bytes.now packets.entry.lengths.now b.ctr b.free out.old)
+        (write_said result) out.new }
 {
     let whole = end + end % 2;
     if crowded(262144, out.len(), whole) {
-        return refuse(out, 4, 0);
+        return Err(Refusal::whole(Reason::NoRoom));
     }
-    compose(p, b, packets, lengths, end, out);
+    compose(p, b, packets, end, out);
     let next = after(p.ctrwidth, b.ctr);
-    let count = whole as u32;
-    Writing::Bytes(count, next)
+    let bytes = whole as u32;
+    Ok(Written { bytes, next })
 }
 
-// The lengths are sized before a byte is written. Their sum comes with their sizes, unless one does not fit.
-fn write_sized(p: Plan, b: Begin, packets: &[u8], lengths: &[u32], out: &mut [u8]) -> Writing
-    requires { Counted p b lengths.now }
-    ensures { Gives (write_of (setting p) packets.now lengths.now b.ctr b.free out.old)
-        result out.new }
-{
-    let z = size(further(p), b.q, lengths);
-    if z.taken < lengths.len() {
-        return refuse_misfit(out, lengths, packets, z.taken);
-    }
-    if z.sum != packets.len() {
-        return refuse(out, 2, 0);
-    }
-    write_fitted(p, b, packets, lengths, z.behind.q, out)
-}
-
-// With a setting that is sound: the counter, then how many lengths there are.
-fn write_sound(p: Plan, b: Begin, packets: &[u8], lengths: &[u32], out: &mut [u8]) -> Writing
+// With a setting that is sound: the counter, then how many lengths there are. They are sized before a byte is written. Their sum comes with their
+// sizes, unless one does not fit.
+fn write_sound(p: Plan, b: Begin, packets: Packets, out: &mut [u8]) -> Result<Written, Refusal>
     requires { Begun p b }
-    ensures { Gives (write_of (setting p) packets.now lengths.now b.ctr b.free out.old)
-        result out.new }
+    ensures { Gives (write_of (setting p) packets.entry.bytes.now packets.entry.lengths.now b.ctr b.free out.old)
+        (write_said result) out.new }
 {
-    if holds(p.ctrwidth, b.ctr) {
-        if miscounted(p, lengths) {
-            return refuse(out, 2, 0);
-        }
-        return write_sized(p, b, packets, lengths, out);
+    if !holds(p.ctrwidth, b.ctr) {
+        return Err(Refusal::whole(Reason::Unsound));
     }
-    refuse(out, 1, 0)
+    if miscounted(p, packets.lengths) {
+        return Err(Refusal::whole(Reason::Mismatch));
+    }
+    let z = size(further(p), b.q, packets.lengths);
+    if z.taken < packets.lengths.len() {
+        return Err(packets.misfit(z.taken));
+    }
+    if z.sum != packets.bytes.len() {
+        return Err(Refusal::whole(Reason::Mismatch));
+    }
+    write_fitted(p, b, packets, z.behind.q, out)
 }
 
 // Writes packets, given as joined bytes and lengths, as one frame of the least even length at the front of the output; or refuses, which
 // changes nothing. The frame carries the counter `first`; free bytes take the byte `fill`. The header's last byte is written as the first packet's
 // LEN, so that all packets are written alike.
+#[tactic(auto, using(crate::proofs::WritesLaws::plans))]
 pub fn write(
     s: Setting,
     packets: &[u8],
@@ -162,18 +157,19 @@ pub fn write(
     first: u32,
     fill: u8,
     out: &mut [u8],
-) -> Writing
-    ensures { Gives (write_of s packets.now lengths.now first fill out.old) result out.new }
+) -> Result<Written, Refusal>
+    ensures { Gives (write_of s packets.now lengths.now first fill out.old)
+        (write_said result) out.new }
 {
-    match plan_for(s) {
-        Planned::Sound(p) => {
-            let b = Begin {
-                q: p.size - 1,
-                ctr: first,
-                free: fill,
-            };
-            write_sound(p, b, packets, lengths, out)
-        }
-        Planned::Unsound => refuse(out, 1, 0),
-    }
+    let p = plan_for(s).ok_or(Refusal::whole(Reason::Unsound))?;
+    let b = Begin {
+        q: p.size - 1,
+        ctr: first,
+        free: fill,
+    };
+    let packets = Packets {
+        bytes: packets,
+        lengths,
+    };
+    write_sound(p, b, packets, out)
 }

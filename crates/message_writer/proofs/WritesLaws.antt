@@ -168,7 +168,8 @@ module _ (bs ns : List ℕ) (c fill : ℕ) (full : Bool) (out : List ℕ) where
     matched = M.same ns bs f.counted.few f.same
 
     module _ {m : ℕ} (i : m ≡ most_of p) {b : Bool} (g : b ≡ (ltb (length out) end || ltb m end)) where
-      pub crowded : b ≡ true → {r : Refusal} → r ≡ refusal_at Y.NoRoom 0 → Gives (writes_by p bs ns c fill full out) (W.Refused (number_of r.reason) r.place) out
+      pub crowded : b ≡ true → {r : Refusal} → r ≡ refusal_at Y.NoRoom 0
+          → Gives (writes_by p bs ns c fill full out) (W.Refused (number_of r.reason) r.place) out
       crowded h = refusing (weighed_so p ∙ L.crowded (call p) out (willing f.counted.held) matched f.fit (long f fill full e) (rw (← i) (sym g ∙ h)))
 
       pub written : {new : List ℕ} {r : ℕ} → b ≡ false → Composed p bs ns c fill a end out new r

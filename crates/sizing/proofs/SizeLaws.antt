@@ -64,7 +64,11 @@ module _ {p plan : Plan} (o : p ≡ plan) {q : ℕ} {ns : List ℕ} where
         let e : misfit_at p (first q) ns ≡ i + 0 = s.index ∙ rw none in
         let t : sum_of ns ≡ z.sum + 0 = s.total ∙ rw none in
         let r : SizedAs p q ns z =
-        record { taken = omega (arith, s.count); few = omega (arith, s.count, s.few); all = λ _. record { sum = omega arith; behind = sym (s.reach ∙ rw none) } } in
+        record {
+          taken = omega (arith, s.count);
+          few = omega (arith, s.count, s.few);
+          all = λ _. record { sum = omega arith; behind = sym (s.reach ∙ rw none) };
+        } in
         rw o at r
 
     module _ (h : i < length ns) {n : ℕ} (e : n ≡ get_or ns i 0) where

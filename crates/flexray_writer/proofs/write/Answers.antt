@@ -1,12 +1,6 @@
--- The plan decides.
-use Rattle.flexray_writer.proofs.WritesLaws.{writes}
+-- The plan is one of a sound setting.
+use Rattle.flexray_writer.proofs.WritesLaws.{begun}
 use Rattle.flexray_writer.proofs.write.Goals as goal
 
-pub overflow_sub-b : goal.overflow_sub-b
-overflow_sub-b c = search writes
-
 pub write_sound-requires : goal.write_sound-requires
-write_sound-requires c = search writes
-
-pub returns-in-Unsound : goal.returns-in-Unsound
-returns-in-Unsound c = search writes
+write_sound-requires c = begun c.args.s c.plan_for.ensures c.in_ok-p.ensures.ok_part
