@@ -15,12 +15,11 @@ use Rattle.words.specs.Spaced.{texts}
 use Rattle.words.proofs.PartLaws.{parts_unique}
 use Rattle.keywords.specs.Tables.{Text}
 use Rattle.description.specs.Described.{Described as D}
-use Rattle.description.specs.declared.Outcome.{Outcome}
-use Rattle.description.specs.declared.Outcome.TheVariants as O
+use Rattle.std.specs.Prelude.{Ok, Err}
 use Rattle.description.specs.declared.Said.{Said}
 use Rattle.description.specs.Block.{Block}
 use Rattle.description.specs.Standing.{GoesOn, Stops, Describes, Wrong, cmd_setting, res_setting, both_sound, Refusal, Accept}
-use Rattle.description.specs.Reading.{State, judge, reading}
+use Rattle.description.specs.Reading.{Outcome, State, judge, reading}
 use Rattle.description.proofs.AnswerLaws.{Answered, answer-is}
 use Rattle.description.proofs.PlaceLaws.{place-within}
 use Rattle.description.proofs.StandingLaws.{said_unique}
@@ -156,8 +155,8 @@ module _ {t : List ℕ} {x : ℕ} where
 module _ (t : List ℕ) (x : ℕ) where
   -- what the words come to, where the answer is 9 at p
   judged-within : {p : ℕ} (o : Outcome) → o ≡ reading t 0 State.first → D.Refused 9 p ≡ judge x o → p ≤ length t
-  judged-within {p} (O.Wrong q) k e = let z : p ≡ q = cc in rw z (place-within t State.first k)
-  judged-within {p} (O.Right s) k e = absurd (right (both_sound s x) e)
+  judged-within {p} (Err q) k e = let z : p ≡ q.place = cc in rw z (place-within t State.first k)
+  judged-within {p} (Ok s) k e = absurd (right (both_sound s x) e)
     where
       right : (b : Bool) → D.Refused 9 p ≡ cond b (D.Both (cmd_setting s x) (res_setting s x)) (D.Refused 1 0) → ⊥
       right true y = no_refusal (sym y)

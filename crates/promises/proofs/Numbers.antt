@@ -13,8 +13,7 @@ use Rattle.packet.specs.Message.{Msg}
 use Rattle.packet.specs.Answer.{Answer, Gives, read_number, read_value, read_state, write_number, write_value, write_counter}
 use Rattle.packet.proofs.AnswerLaws.{Exact}
 use Rattle.packet.proofs.ReaderLaws.{Rules, Reader}
-use Rattle.lent.specs.declared.Told.{Told}
-use Rattle.lent.specs.Told.{told_of, told_number, told_value, Tells}
+use Rattle.lent.specs.Told.{Told, told_of, told_number, told_value, Tells}
 use Rattle.plumagemud.specs.declared.ReadResult.{ReadResult}
 use Rattle.plumagemud.specs.declared.WriteResult.{WriteResult}
 use Rattle.plumagemud.specs.Result.{Reads, Writes}

@@ -43,6 +43,7 @@ use Rattle.usb_reader.proofs.read.Reads as UsbRead
 use Rattle.usb_writer.proofs.write.Reads as UsbWrite
 use Rattle.words.proofs.same.Reads as SameWord
 use Rattle.keywords.proofs.says.Reads as Says
+use Rattle.passing.specs.declared.Names.{Names}
 use Rattle.passing.proofs.Names.new.Reads as NoNames
 use Rattle.description.proofs.DescribedLaws.{described_only}
 use Rattle.description.proofs.Endpoint.setting.Reads as EndpointSetting
@@ -124,7 +125,7 @@ pub lent : {a : Answer Reading} {c : Counter} {r u : Result ℕ Refusal} {d e : 
 lent g h = let (told, state, rows) = one_telling g h in (told_only told, state, rows)
 
 pub advance : (x : _) (a : _) (r u : _) (e f : _) → Advance.Post x a r e → Advance.Post x a u f → (r ≡ u) × (e.1.0.now ≡ f.1.0.now)
-advance x a r u e f g h = (told_only (g.told ∙ sym h.told), g.state ∙ sym h.state)
+advance x a r u e f g h = (told_only (g.0 ∙ sym h.0), g.1 ∙ sym h.1)
 
 -- and of lending's functions: what was told with the state that is given back, and the table
 one_lent : {a : Answer Reading} {c : Counter} {r u : Lent} {left past : List ℕ} → Lends a c r left → Lends a c u past → (r ≡ u) × (left ≡ past)
@@ -178,7 +179,9 @@ pub text : (SameWord.Post allows-one) × (Says.Post allows-one) × (EndpointSett
 text = (λ x a. same, λ x a. same, λ x a. same)
 
 pub no_names : NoNames.Post allows-one
-no_names x a r u e f g h = cc
+no_names x a r u e f g h =
+    let names : _ → _ → Names = λ p d. record { places = p; depth = d } in
+    ap (λ p. names p r.depth) (g.1 ∙ sym h.1) ∙ ap (names u.places) (g.0 ∙ sym h.0)
 
 ---- Packets --------------------------------------------------------------------------------------------------------------------
 

@@ -25,8 +25,7 @@ use Rattle.packet.proofs.AnswerLaws as AnswerLaws
 use Rattle.packet.proofs.CounterLaws.{difference_back, difference_only}
 use Rattle.packet.proofs.KindLaws as KindLaws
 use Rattle.packet.proofs.PartLaws as PartLaws
-use Rattle.lent.specs.declared.Told.{Told}
-use Rattle.lent.specs.Told.{Tells, told_number, told_value}
+use Rattle.lent.specs.Told.{Told, Tells, told_number, told_value}
 use Rattle.usb.specs.declared.Setting as UsbSetting
 use Rattle.usb.specs.Setting as UsbSize
 use Rattle.usb.specs.Layout.{Transfer}
