@@ -31,10 +31,7 @@ fn reads<F: FnOnce(&mut [u32]) -> result::Result<Rows, Refusal>>(
     match read(&mut rows) {
         Ok(answer) => {
             print!(rt; " rows {}:", answer.count)?;
-            numbers(
-                rt,
-                rows.get(..answer.count as usize * 5).unwrap_or(&[]),
-            )?;
+            numbers(rt, rows.get(..answer.count as usize * 5).unwrap_or(&[]))?;
             println!(rt)
         }
         Err(refusal) => refused(rt, refusal),
@@ -251,19 +248,8 @@ fn flexray_examples(rt: &HostRuntime) -> Result<()> {
         r(5, 2),
         &[0x07, 0x01, 0xFF, 0xEE],
     )?;
-    flexray_writes(
-        rt,
-        "header 0 writes [FF 00]:",
-        r(0, 1),
-        &[0xFF, 0x00],
-        &[2],
-    )?;
-    flexray_reads(
-        rt,
-        "header 0 reads it:",
-        r(0, 1),
-        &[0x07, 0xFF, 0x00, 0xEE],
-    )
+    flexray_writes(rt, "header 0 writes [FF 00]:", r(0, 1), &[0xFF, 0x00], &[2])?;
+    flexray_reads(rt, "header 0 reads it:", r(0, 1), &[0x07, 0xFF, 0x00, 0xEE])
 }
 
 // D: datagrams with packets of at most 64 bytes.
