@@ -71,18 +71,20 @@ spelt {n} {text} {k} h f c e =
     record { digits = e ∙ spells_decimal k n f; count = c.1; inside = c.0; few = few-digits 9 k n (omega arith) f }
 
 -- .. is put with a byte behind it, where the first k bytes were lent from 0 on
-pub word-put : (old : List ℕ) (at n behind : ℕ) {text mid : List ℕ} {k : ℕ} → Spelt n text k → mid ≡ sets old at (take (k - 0) text)
-    → Puts old at (word n behind) 11 (set mid (at + k) behind) (at + k + 1)
-word-put old at n behind {text} {mid} {k} s x =
+pub word-put : (n behind : ℕ) {old : List ℕ} {at m : ℕ} {text mid : List ℕ} {k a : ℕ} → Spelt n text k → Puts old at (take (k - 0) text) m mid a
+    → Puts old at (word n behind) 11 (set mid a behind) (a + 1)
+word-put n behind {old} {at} {text = text} {mid} {k} {a} s p =
     let d : List ℕ = decimal n in
     let z : k - 0 ≡ k = omega arith in
-    let e : length d ≡ k = ap length (sym s.digits) ∙ sym s.count in
-    let m : mid ≡ sets old at d = x ∙ rw (z, s.digits) in
-    let b : set mid (at + k) behind ≡ sets old at (word n behind) = rw m (sym (sets-append d (behind ∷ []) old at ∙ rw e)) in
+    let t : take (k - 0) text ≡ d = rw (z, s.digits) in
+    let e : a ≡ at + length d = rw t at p.next in
+    let f : length d ≡ k = ap length (sym s.digits) ∙ sym s.count in
+    let m : mid ≡ sets old at d = rw t at p.bytes in
+    let b : set mid a behind ≡ sets old at (word n behind) = rw (m, e) (sym (sets-append d (behind ∷ []) old at)) in
     record {
       bytes = b;
-      next = omega (arith, length-append d (behind ∷ []));
-      most = omega (arith, s.few);
+      next = omega (arith, e, length-append d (behind ∷ []));
+      most = omega (arith, e, f, s.few);
       long = ap length b ∙ length-sets old at (word n behind);
     }
 

@@ -2,5 +2,6 @@
 use Rattle.spelling.proofs.TextLaws.{puts_then}
 use Rattle.settingtext.proofs.put_lines.Goals as goal
 
-pub returns : goal.returns
-returns c = puts_then c.put_bytes-a.ensures (puts_then c.put_numbers-b.ensures (puts_then c.put_bytes-c.ensures c.put_numbers.ensures))
+pub returns-clause-puts : goal.returns-clause-puts
+returns-clause-puts c =
+    puts_then c.bytes.ensures.puts (puts_then c.put_numbers.ensures.puts (puts_then c.bytes-2.ensures.puts c.put_numbers-2.ensures.puts))

@@ -2,10 +2,10 @@
 use Rattle.spelling.proofs.TextLaws.{puts_then}
 use Rattle.settingtext.proofs.put_numbers.Goals as goal
 
-pub returns : goal.returns
-returns c =
-    puts_then c.put_word-a.ensures
-    (puts_then c.put_word-b.ensures
-    (puts_then c.put_word-c.ensures
-    (puts_then c.put_word-d.ensures
-    (puts_then c.put_word-e.ensures c.put_word.ensures))))
+pub returns-clause-puts : goal.returns-clause-puts
+returns-clause-puts c =
+    puts_then c.word.ensures.puts
+    (puts_then c.word-2.ensures.puts
+    (puts_then c.word-3.ensures.puts
+    (puts_then c.word-4.ensures.puts
+    (puts_then c.word-5.ensures.puts c.word-6.ensures.puts))))
