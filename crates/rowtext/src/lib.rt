@@ -5,8 +5,7 @@ ghost use Rattle.std.specs.Prelude.{◌≡◌, ◌*◌, ◌≤◌, length};
 ghost use Rattle.packet.specs.Counter.{fresh};
 ghost use Rattle.packet.specs.Said.{read_said};
 ghost use Rattle.usb.specs.Reading.{read_of};
-ghost use Rattle.store.specs.Store.{Inside};
-ghost use Rattle.spelling.specs.Page.{Adds};
+ghost use Rattle.spelling.specs.Page.{Adds, Room};
 ghost use Rattle.spelling.specs.Put.{Reports};
 ghost use Rattle.rowtext.specs.Put.{Roomy, Tellable, Prepared};
 ghost use Rattle.rowtext.specs.Text.{line_of, lines, told, text_of, program_text, u1 as u1_of};
@@ -18,10 +17,9 @@ use usb_reader::read;
 
 // Puts the line of a row. The last number has the line's end behind it, so that a loop over the row were no plainer.
 fn put_row(page: &mut Page, row: &[u32])
-    requires room { Inside page.old.out.now page.old.at 55 }
+    requires room { Room page.old 55 }
     requires five { 5 ≤ length row.now }
-    ensures same { page.new.out.ghost_name ≡ page.old.out.ghost_name }
-    ensures puts { Adds page.old (line_of row.now) 55 page.new }
+    ensures { Adds page.old (line_of row.now) 55 page.new }
 {
     page.word(row[0], b' ');
     page.word(row[1], b' ');
@@ -32,10 +30,9 @@ fn put_row(page: &mut Page, row: &[u32])
 
 // Puts the lines of the first k rows.
 fn put_rows(page: &mut Page, rows: &[u32], k: usize)
-    requires room { Inside page.old.out.now page.old.at (55 * k) }
+    requires room { Room page.old (55 * k) }
     requires there { 5 * k ≤ length rows.now }
-    ensures same { page.new.out.ghost_name ≡ page.old.out.ghost_name }
-    ensures puts { Adds page.old (lines k rows.now) (55 * k) page.new }
+    ensures { Adds page.old (lines k rows.now) (55 * k) page.new }
 {
     for row in rows[0..5 * k].chunks_exact(5) {
         put_row(page, row);

@@ -5,7 +5,7 @@ ghost use Rattle.std.specs.Prelude.{◌≡◌};
 ghost use Rattle.store.specs.Store.{Inside};
 ghost use Rattle.keywords.specs.Saying.{told};
 ghost use Rattle.description.specs.Described.{described_said};
-ghost use Rattle.spelling.specs.Page.{Adds};
+ghost use Rattle.spelling.specs.Page.{Adds, Room};
 ghost use Rattle.spelling.specs.Put.{Reports};
 ghost use Rattle.settingtext.specs.Text.{numbers_of, lines_of, described_text, argument as argument_of, program_text};
 
@@ -29,9 +29,8 @@ pub fn argument(words: usize, first: &[u8]) -> Option<u32>
 
 // Puts the numbers of a setting.
 fn put_numbers(page: &mut Page, s: Setting)
-    requires { Inside page.old.out.now page.old.at 66 }
-    ensures same { page.new.out.ghost_name ≡ page.old.out.ghost_name }
-    ensures puts { Adds page.old (numbers_of s) 66 page.new }
+    requires { Room page.old 66 }
+    ensures { Adds page.old (numbers_of s) 66 page.new }
 {
     page.word(s.header, b' ');
     page.word(s.packing, b' ');
@@ -43,9 +42,8 @@ fn put_numbers(page: &mut Page, s: Setting)
 
 // Puts the lines of both settings.
 fn put_lines(page: &mut Page, cmd: Setting, res: Setting)
-    requires { Inside page.old.out.now page.old.at 149 }
-    ensures same { page.new.out.ghost_name ≡ page.old.out.ghost_name }
-    ensures puts { Adds page.old (lines_of cmd res) 149 page.new }
+    requires { Room page.old 149 }
+    ensures { Adds page.old (lines_of cmd res) 149 page.new }
 {
     page.bytes(b"cmd_stim ");
     put_numbers(page, cmd);

@@ -12,6 +12,8 @@ use borrow.Author.Tests.{lt-ltb, le-ltb}
 use Rattle.io.specs.Counts.{IsPrefixLen}
 use Rattle.io.specs.Digits.{hex_digit_ascii, last_digits, IsDigitCount}
 use Rattle.layout.proofs.RunLaws.{sets-append}
+use Rattle.spelling.specs.declared.Page.{Page}
+use Rattle.spelling.specs.Page.{Adds}
 use Rattle.spelling.specs.Text.{spelled, decimal, word}
 use Rattle.spelling.specs.Put.{Spelt, Puts}
 
@@ -102,5 +104,9 @@ puts_then {old} {at} {v} {w = w} p q =
       most = omega (arith, p.most, q.most);
       long = q.long ∙ p.long;
     }
+
+-- .. on a page
+pub adds_then : {p : Page} {v : List ℕ} {m : ℕ} {q : Page} {w : List ℕ} {n : ℕ} {r : Page} → Adds p v m q → Adds q w n r → Adds p (v ++ w) (m + n) r
+adds_then a b = record { same = b.same ∙ a.same; puts = puts_then a.puts b.puts }
 
 pub ruleset spellings = (rules, spelt, word-put, bytes-put)

@@ -3,9 +3,9 @@
 
 ghost use Rattle.std.specs.Prelude.{◌≡◌, length};
 ghost use Rattle.packet.specs.Said.{number_of};
-ghost use Rattle.store.specs.Store.{Inside, Short};
+ghost use Rattle.store.specs.Store.{Short};
 ghost use Rattle.spelling.specs.Put.{Spelt};
-ghost use Rattle.spelling.specs.Page.{Adds};
+ghost use Rattle.spelling.specs.Page.{Adds, Room};
 ghost use Rattle.spelling.specs.Text.{word, refused_text};
 
 use packet::Refusal;
@@ -38,8 +38,7 @@ impl<'a> Page<'a> {
     // Puts bytes.
     pub fn bytes(&mut self, bytes: &[u8])
         requires { Short self.old.out.now self.old.at (length bytes.now) 0 65536 }
-        ensures same { self.new.out.ghost_name ≡ self.old.out.ghost_name }
-        ensures puts { Adds self.old bytes.now (length bytes.now) self.new }
+        ensures { Adds self.old bytes.now (length bytes.now) self.new }
     {
         put_packet(true, self.out, self.at, bytes);
         self.at += bytes.len();
@@ -47,9 +46,8 @@ impl<'a> Page<'a> {
 
     // Puts a number in decimal and the byte behind it.
     pub fn word(&mut self, n: u32, behind: u8)
-        requires { Inside self.old.out.now self.old.at 11 }
-        ensures same { self.new.out.ghost_name ≡ self.old.out.ghost_name }
-        ensures puts { Adds self.old (word n behind) 11 self.new }
+        requires { Room self.old 11 }
+        ensures { Adds self.old (word n behind) 11 self.new }
     {
         let mut text = [0u8; 20];
         let k = spell(n, &mut text);
@@ -61,9 +59,8 @@ impl<'a> Page<'a> {
     // Puts the line of a refusal. With `write!` into the page the proof did not close: what `write!` wrote is known only where it gives Ok, and nothing
     // says that it does where there is room.
     pub fn refusal(&mut self, refusal: Refusal)
-        requires { Inside self.old.out.now self.old.at 30 }
-        ensures same { self.new.out.ghost_name ≡ self.old.out.ghost_name }
-        ensures puts { Adds self.old (refused_text (number_of refusal.reason) refusal.place) 30 self.new }
+        requires { Room self.old 30 }
+        ensures { Adds self.old (refused_text (number_of refusal.reason) refusal.place) 30 self.new }
     {
         self.bytes(b"refused ");
         self.word(u32::from(refusal.reason), b' ');

@@ -1,10 +1,10 @@
 -- Five numbers, each behind the one before.
-use Rattle.spelling.proofs.TextLaws.{puts_then}
+use Rattle.spelling.proofs.TextLaws.{adds_then}
 use Rattle.rowtext.proofs.put_row.Goals as goal
 
-pub returns-clause-puts : goal.returns-clause-puts
-returns-clause-puts c =
-    puts_then c.word.ensures.puts
-    (puts_then c.word-2.ensures.puts
-    (puts_then c.word-3.ensures.puts
-    (puts_then c.word-4.ensures.puts c.word-5.ensures.puts)))
+pub returns : goal.returns
+returns c =
+    adds_then c.word.ensures
+    (adds_then c.word-2.ensures
+    (adds_then c.word-3.ensures
+    (adds_then c.word-4.ensures c.word-5.ensures)))

@@ -27,8 +27,8 @@ loop-row-preserved c =
       listed = listing_next l.listed c.in-Some.row.now _ s.1.0 (s.1.1 ∙ l.size) c.put_row.ensures.puts;
     }
 
-pub returns-clause-puts : goal.returns-clause-puts
-returns-clause-puts c =
+pub returns : goal.returns
+returns c =
     let l = c.loop-row.invariant in
     let s = c.in-None.ensures.steps in
-    listing_done l.listed (rw l.size at s.1.0)
+    record { same = l.same; puts = listing_done l.listed (rw l.size at s.1.0) }

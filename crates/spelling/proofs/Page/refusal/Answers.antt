@@ -1,5 +1,5 @@
-use Rattle.spelling.proofs.TextLaws.{puts_then}
+use Rattle.spelling.proofs.TextLaws.{adds_then}
 use Rattle.spelling.proofs.Page.refusal.Goals as goal
 
-pub returns-clause-puts : goal.returns-clause-puts
-returns-clause-puts c = rw (← c.from.ensures) (puts_then c.bytes.ensures.puts (puts_then c.word.ensures.puts c.word-2.ensures.puts))
+pub returns : goal.returns
+returns c = rw (← c.from.ensures) (adds_then c.bytes.ensures (adds_then c.word.ensures c.word-2.ensures))
