@@ -15,7 +15,7 @@ use spelling::Page;
 use usb::Setting;
 use usb_reader::read;
 
-// Puts the line of a row. The last number has the line's end behind it, so that a loop over the row were no plainer.
+// Puts the line of a row. The last number has the line's end behind it, so a loop over the row would be no plainer.
 fn put_row(page: &mut Page, row: &[u32])
     requires room { Room page.old 55 }
     requires five { 5 ≤ length row.now }
