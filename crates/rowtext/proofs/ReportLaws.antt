@@ -1,11 +1,11 @@
 -- A table of 2,048 rows is enough for every input that the program reads, and what stood in it does not matter.
-use Prim.Native.Nat.{ℕ, zero, suc, ◌+◌, ◌*◌, ◌%◌, ◌<◌, ◌≤◌}
+use Prim.Native.Nat.{ℕ, ◌+◌, ◌*◌, ◌%◌, ◌<◌, ◌≤◌}
 use borrow.Author.Rules.{rules}
 use native.Mathlib.Omega.{arith}
 use mathlib.Core.Path.{◌≡◌, refl, sym, ◌∙◌}
 use mathlib.Core.List.{List, ◌++◌}
-use lib.ListN.{length, drop, length-append, length-drop, get_or-append}
-use lib.Seq.{sets, sets-eq, drop-append-le}
+use lib.ListN.{length, drop, length-append}
+use lib.Seq.{sets, sets-eq}
 use borrow.Author.Tests.{lt-ltb, le-ltb}
 use Rattle.layout.specs.Walk.{Out, Out.list, Out.refused}
 use Rattle.packet.specs.declared.Counter.{Counter}
@@ -21,10 +21,11 @@ use Rattle.usb.specs.Setting.{W}
 use Rattle.usb.specs.Reading.{judged, read_of}
 use Rattle.usb.proofs.ReadLaws.{read_sound}
 use Rattle.usb.proofs.RefusalLaws.{accepted_exactly}
-use Rattle.spelling.specs.Put.{Puts, Reports}
+use Rattle.spelling.specs.Put.{Reports}
 use Rattle.spelling.specs.Text.{refused_text}
-use Rattle.spelling.proofs.ReportLaws.{tells, tells_so}
-use Rattle.rowtext.specs.Text.{lines, told, text_of, said, program_text, u1}
+use Rattle.spelling.proofs.ReportLaws.{tells_so}
+use Rattle.rowtext.proofs.RowsLaws.{lines_front}
+use Rattle.rowtext.specs.Text.{told, text_of, said, program_text, u1}
 use Rattle.rowtext.specs.Put.{Within, Roomy, Tellable, Prepared}
 
 ---- An answer ------------------------------------------------------------------------------------------------------------------
@@ -53,22 +54,6 @@ four (message h b e {bs = bs} {ms = ms} m l) =
     let w : (length h + length b + length e) % 4 ≡ 0 = m.whole in
     simp length-append (omega (arith, four l, m.least))
 four (rest r {bs = bs} f x l) = simp length-append (omega (arith, four l))
-
--- the first k rows, whatever stands behind them
-lines_front : (k : ℕ) (xs ys : List ℕ) → 5 * k ≤ length xs → lines k (xs ++ ys) ≡ lines k xs
-unfolding lines
-lines_front zero xs ys h = refl
-lines_front (suc k) xs ys h =
-    let l : 5 * k ≤ length (drop 5 xs) = simp length-drop (omega arith) in
-    rw (
-      get_or-append xs ys 0 0 (omega arith),
-      get_or-append xs ys 0 1 (omega arith),
-      get_or-append xs ys 0 2 (omega arith),
-      get_or-append xs ys 0 3 (omega arith),
-      get_or-append xs ys 0 4 (omega arith),
-      drop-append-le 5 xs ys (omega arith),
-      lines_front k (drop 5 xs) ys l,
-    )
 
 ---- The program ----------------------------------------------------------------------------------------------------------------
 
@@ -107,8 +92,8 @@ module _ {s : Setting} {c : Counter} (e : s ≡ u1) (f : c ≡ fresh) (t rows : 
 
 -- .. or a longer input is refused
 module _ (t : List ℕ) {out rows new : List ℕ} {r : ℕ} (p : Prepared out rows) where
-  pub report_long : 8192 < length t → Puts out 0 (refused_text 2 0) 30 new r → Reports out (program_text t) new r
-  report_long h x = tells_so (tells x (roomy p).refusal) (long-text t h)
+  pub report_long : 8192 < length t → Reports out (refused_text 2 0) new r → Reports out (program_text t) new r
+  report_long h x = tells_so x (long-text t h)
 
   pub report_short : length t ≤ 8192 → Reports out (text_of (read_of u1 t fresh rows)) new r → Reports out (program_text t) new r
   report_short h x = tells_so x (short-text t rows p.table h)

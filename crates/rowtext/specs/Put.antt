@@ -1,16 +1,6 @@
 -- What putting the text of rows into a lent output asks.
-use Rattle.std.specs.Prelude.{ℕ, ◌+◌, ◌*◌, ◌≤◌, List, length}
+use Rattle.std.specs.Prelude.{ℕ, ◌*◌, ◌≤◌, List, length}
 use Rattle.packet.specs.Reading.{Reading, Reading as R}
-
--- a row at i has room at a place
-pub record Rowed (out : List ℕ) (at : ℕ) (rows : List ℕ) (i : ℕ) : Type 0 where
-  pub room : at + 55 ≤ length out
-  pub inside : i + 5 ≤ length rows
-
--- k rows have room
-pub record Listed (out rows : List ℕ) (k : ℕ) : Type 0 where
-  pub room : 55 * k ≤ length out
-  pub inside : 5 * k ≤ length rows
 
 -- an output that holds the text of any answer with these rows
 pub record Roomy (out rows : List ℕ) : Type 0 where

@@ -1,41 +1,42 @@
 // The text of what is read of a transfer: a line for each row, or the line of a refusal.
 #![tactic(auto)]
 
-ghost use Rattle.std.specs.Prelude.{◌≡◌, ◌*◌, drop};
+ghost use Rattle.std.specs.Prelude.{◌≡◌, ◌*◌, ◌≤◌, length};
 ghost use Rattle.packet.specs.Counter.{fresh};
 ghost use Rattle.packet.specs.Said.{read_said};
 ghost use Rattle.usb.specs.Reading.{read_of};
-ghost use Rattle.spelling.specs.Put.{Puts, Reports};
-ghost use Rattle.rowtext.specs.Put.{Rowed, Listed, Roomy, Tellable, Prepared};
+ghost use Rattle.spelling.specs.Page.{Adds, Room};
+ghost use Rattle.spelling.specs.Put.{Reports};
+ghost use Rattle.rowtext.specs.Put.{Roomy, Tellable, Prepared};
 ghost use Rattle.rowtext.specs.Text.{line_of, lines, told, text_of, program_text, u1 as u1_of};
 
 use packet::{Counter, Reason, Refusal, Rows};
-use spelling::{put_refusal, put_word};
+use spelling::Page;
 use usb::Setting;
 use usb_reader::read;
 
-// Puts the line of the row at i.
-fn put_row(out: &mut [u8], at: usize, rows: &[u32], i: usize) -> usize
-    requires { Rowed out.old at rows.now i }
-    ensures { Puts out.old at (line_of (drop i rows.now)) 55 out.new result }
+// Puts the line of a row. The last number has the line's end behind it, so a loop over the row would be no plainer.
+fn put_row(page: &mut Page, row: &[u32])
+    requires room { Room page.old 55 }
+    requires five { 5 ≤ length row.now }
+    ensures { Adds page.old (line_of row.now) 55 page.new }
 {
-    let a = put_word(out, at, rows[i], b' ');
-    let b = put_word(out, a, rows[i + 1], b' ');
-    let c = put_word(out, b, rows[i + 2], b' ');
-    let d = put_word(out, c, rows[i + 3], b' ');
-    put_word(out, d, rows[i + 4], b'\n')
+    page.word(row[0], b' ');
+    page.word(row[1], b' ');
+    page.word(row[2], b' ');
+    page.word(row[3], b' ');
+    page.word(row[4], b'\n');
 }
 
-// Puts the lines of the first k rows at the front.
-fn put_rows(out: &mut [u8], rows: &[u32], k: usize) -> usize
-    requires { Listed out.old rows.now k }
-    ensures { Puts out.old 0 (lines k rows.now) (55 * k) out.new result }
+// Puts the lines of the first k rows.
+fn put_rows(page: &mut Page, rows: &[u32], k: usize)
+    requires room { Room page.old (55 * k) }
+    requires there { 5 * k ≤ length rows.now }
+    ensures { Adds page.old (lines k rows.now) (55 * k) page.new }
 {
-    let mut at: usize = 0;
-    for i in 0..k {
-        at = put_row(out, at, rows, i * 5);
+    for row in rows[0..5 * k].chunks_exact(5) {
+        put_row(page, row);
     }
-    at
 }
 
 // Puts the text of an answer at the front.
@@ -43,10 +44,12 @@ fn put_answer(out: &mut [u8], rows: &[u32], answer: Result<Rows, Refusal>) -> us
     requires { Tellable out.old rows.now (read_said answer) }
     ensures { Reports out.old (told (read_said answer) rows.now) out.new result }
 {
+    let mut page = Page::new(out);
     match answer {
-        Ok(read) => put_rows(out, rows, read.count as usize),
-        Err(refusal) => put_refusal(out, refusal),
+        Ok(read) => put_rows(&mut page, rows, read.count as usize),
+        Err(refusal) => page.refusal(refusal),
     }
+    page.at
 }
 
 // The setting U1.
@@ -78,7 +81,7 @@ pub fn report(t: &[u8], rows: &mut [u32], out: &mut [u8]) -> usize
     ensures { Reports out.old (program_text t.now) out.new result }
 {
     if t.len() > 8192 {
-        return put_refusal(out, Refusal::whole(Reason::Mismatch));
+        return put_answer(out, rows, Err(Refusal::whole(Reason::Mismatch)));
     }
     tell(t, rows, out)
 }

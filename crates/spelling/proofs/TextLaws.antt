@@ -12,6 +12,8 @@ use borrow.Author.Tests.{lt-ltb, le-ltb}
 use Rattle.io.specs.Counts.{IsPrefixLen}
 use Rattle.io.specs.Digits.{hex_digit_ascii, last_digits, IsDigitCount}
 use Rattle.layout.proofs.RunLaws.{sets-append}
+use Rattle.spelling.specs.declared.Page.{Page}
+use Rattle.spelling.specs.Page.{Adds}
 use Rattle.spelling.specs.Text.{spelled, decimal, word}
 use Rattle.spelling.specs.Put.{Spelt, Puts}
 
@@ -71,18 +73,20 @@ spelt {n} {text} {k} h f c e =
     record { digits = e ∙ spells_decimal k n f; count = c.1; inside = c.0; few = few-digits 9 k n (omega arith) f }
 
 -- .. is put with a byte behind it, where the first k bytes were lent from 0 on
-pub word-put : (old : List ℕ) (at n behind : ℕ) {text mid : List ℕ} {k : ℕ} → Spelt n text k → mid ≡ sets old at (take (k - 0) text)
-    → Puts old at (word n behind) 11 (set mid (at + k) behind) (at + k + 1)
-word-put old at n behind {text} {mid} {k} s x =
+pub word-put : (n behind : ℕ) {old : List ℕ} {at m : ℕ} {text mid : List ℕ} {k a : ℕ} → Spelt n text k → Puts old at (take (k - 0) text) m mid a
+    → Puts old at (word n behind) 11 (set mid a behind) (a + 1)
+word-put n behind {old} {at} {text = text} {mid} {k} {a} s p =
     let d : List ℕ = decimal n in
     let z : k - 0 ≡ k = omega arith in
-    let e : length d ≡ k = ap length (sym s.digits) ∙ sym s.count in
-    let m : mid ≡ sets old at d = x ∙ rw (z, s.digits) in
-    let b : set mid (at + k) behind ≡ sets old at (word n behind) = rw m (sym (sets-append d (behind ∷ []) old at ∙ rw e)) in
+    let t : take (k - 0) text ≡ d = rw (z, s.digits) in
+    let e : a ≡ at + length d = rw t at p.next in
+    let f : length d ≡ k = ap length (sym s.digits) ∙ sym s.count in
+    let m : mid ≡ sets old at d = rw t at p.bytes in
+    let b : set mid a behind ≡ sets old at (word n behind) = rw (m, e) (sym (sets-append d (behind ∷ []) old at)) in
     record {
       bytes = b;
-      next = omega (arith, length-append d (behind ∷ []));
-      most = omega (arith, s.few);
+      next = omega (arith, e, length-append d (behind ∷ []));
+      most = omega (arith, e, f, s.few);
       long = ap length b ∙ length-sets old at (word n behind);
     }
 
@@ -100,5 +104,9 @@ puts_then {old} {at} {v} {w = w} p q =
       most = omega (arith, p.most, q.most);
       long = q.long ∙ p.long;
     }
+
+-- .. on a page
+pub adds_then : {p : Page} {v : List ℕ} {m : ℕ} {q : Page} {w : List ℕ} {n : ℕ} {r : Page} → Adds p v m q → Adds q w n r → Adds p (v ++ w) (m + n) r
+adds_then a b = record { same = b.same ∙ a.same; puts = puts_then a.puts b.puts }
 
 pub ruleset spellings = (rules, spelt, word-put, bytes-put)

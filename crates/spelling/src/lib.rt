@@ -1,10 +1,11 @@
 // Text that is put into a lent output: bytes, numbers in decimal, and the line of a refusal.
 #![tactic(auto)]
 
-ghost use Rattle.std.specs.Prelude.{length};
+ghost use Rattle.std.specs.Prelude.{◌≡◌, length};
 ghost use Rattle.packet.specs.Said.{number_of};
-ghost use Rattle.store.specs.Store.{Inside, Short};
-ghost use Rattle.spelling.specs.Put.{Spelt, Puts};
+ghost use Rattle.store.specs.Store.{Short};
+ghost use Rattle.spelling.specs.Put.{Spelt};
+ghost use Rattle.spelling.specs.Page.{Adds, Room};
 ghost use Rattle.spelling.specs.Text.{word, refused_text};
 
 use packet::Refusal;
@@ -17,34 +18,52 @@ fn spell(n: u32, text: &mut [u8; 20]) -> usize
     io::decimal(n as u64, text)
 }
 
-// Puts bytes from a place on, and gives the place behind them.
-pub fn put_bytes(out: &mut [u8], at: usize, bytes: &[u8]) -> usize
-    requires { Short out.old at (length bytes.now) 0 65536 }
-    ensures { Puts out.old at bytes.now (length bytes.now) out.new result }
-{
-    put_packet(true, out, at, bytes);
-    at + bytes.len()
+// A lent output, and the place in it where the next text goes.
+#[derive(Drop)]
+pub struct Page<'a> {
+    pub out: &'a mut [u8],
+    pub at: usize,
 }
 
-// Puts a number in decimal and the byte behind it from a place on, and gives the place behind both.
-pub fn put_word(out: &mut [u8], at: usize, n: u32, behind: u8) -> usize
-    requires { Inside out.old at 11 }
-    ensures { Puts out.old at (word n behind) 11 out.new result }
-{
-    let mut text = [0u8; 20];
-    let k = spell(n, &mut text);
-    put_packet(true, out, at, &text[0..k]);
-    out[at + k] = behind;
-    at + k + 1
-}
+impl<'a> Page<'a> {
+    // At the front of an output.
+    pub fn new(out: &'a mut [u8]) -> Page<'a>
+        ensures same { result.out.ghost_name ≡ out.entry.ghost_name }
+        ensures lent { result.out.now ≡ out.old }
+        ensures front { result.at ≡ 0 }
+    {
+        Page { out, at: 0 }
+    }
 
-// Puts the line of a refusal at the front.
-pub fn put_refusal(out: &mut [u8], refusal: Refusal) -> usize
-    requires { Inside out.old 0 30 }
-    ensures { Puts out.old 0 (refused_text (number_of refusal.reason) refusal.place) 30 out.new result }
-{
-    let number = u32::from(refusal.reason);
-    let a = put_bytes(out, 0, b"refused ");
-    let b = put_word(out, a, number, b' ');
-    put_word(out, b, refusal.place, b'\n')
+    // Puts bytes.
+    pub fn bytes(&mut self, bytes: &[u8])
+        requires { Short self.old.out.now self.old.at (length bytes.now) 0 65536 }
+        ensures { Adds self.old bytes.now (length bytes.now) self.new }
+    {
+        put_packet(true, self.out, self.at, bytes);
+        self.at += bytes.len();
+    }
+
+    // Puts a number in decimal and the byte behind it.
+    pub fn word(&mut self, n: u32, behind: u8)
+        requires { Room self.old 11 }
+        ensures { Adds self.old (word n behind) 11 self.new }
+    {
+        let mut text = [0u8; 20];
+        let k = spell(n, &mut text);
+        self.bytes(&text[0..k]);
+        self.out[self.at] = behind;
+        self.at += 1;
+    }
+
+    // Puts the line of a refusal. With `write!` into the page the proof did not close: what `write!` wrote is known only where it gives Ok, and nothing
+    // says that it does where there is room.
+    pub fn refusal(&mut self, refusal: Refusal)
+        requires { Room self.old 30 }
+        ensures { Adds self.old (refused_text (number_of refusal.reason) refusal.place) 30 self.new }
+    {
+        self.bytes(b"refused ");
+        self.word(u32::from(refusal.reason), b' ');
+        self.word(refusal.place, b'\n');
+    }
 }
