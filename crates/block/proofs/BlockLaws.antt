@@ -1,5 +1,5 @@
 -- What a block comes to: at its end, at an entry, at its opening words.
-use Prim.Native.Nat.{ℕ, ◌-◌, ◌<◌}
+use Prim.Native.Nat.{ℕ, ◌-◌}
 use native.Mathlib.Omega.{arith}
 use mathlib.Core.Path.{◌≡◌, refl, sym, ap, ◌∙◌}
 use mathlib.Core.Bool.{Bool, true, false, cond}
@@ -19,7 +19,6 @@ use Rattle.keywords.proofs.TableLaws.{Plain, plain-is}
 use Rattle.description.specs.declared.Said.{Said}
 use Rattle.description.specs.Reading.{Outcome, State, when, given, whole, step, gone_on, reading}
 use Rattle.description.proofs.TurnLaws.{turn_word, turn_on, turn_wrong, turn_end, turn_cut}
-use Rattle.passing.specs.Passing.{Stopping}
 use Rattle.expecting.specs.Expecting.{Asks, Expects, openings, Leads, Led}
 use Rattle.entries.specs.declared.Gathered.{Gathered}
 use Rattle.entries.specs.Entering.{maybe, meant, Enterable, Enters}
@@ -76,9 +75,6 @@ module _ {t : List ℕ} {q h k : ℕ} {g : Gathered} (v : Reading t q h k g) whe
       pub entry-on : {f : Gathered} {p : ℕ} → Enters t (State.begun (meant g) []) w.to (Ok (f, p)) → Reading t q h p f
       entry-on y = record { able = record { short = v.able.short; inside = y.place.1 }; is = to-begin ∙ y.is }
 
-      pub entry_less : {f : Gathered} {p : ℕ} → Enters t (State.begun (meant g) []) w.to (Ok (f, p)) → length t - p < length t - k
-      entry_less y = omega (arith, n.within, y.place)
-
       pub entry-wrong : {e : Wrong} → Enters t (State.begun (meant g) []) w.to (Err e) → Err e ≡ reading t q (behind_header h)
       entry-wrong y = sym (to-begin ∙ y.is)
 
@@ -96,12 +92,6 @@ module _ {t : List ℕ} {q h k : ℕ} {g : Gathered} (v : Reading t q h k g) whe
             able = record { short = v.able.short; inside = n.within.2 };
             is = v.is ∙ turn_on (State.inside (meant g) []) n (rw (p.unbegin, p.unend));
           }
-
-    pub word_less : length t - w.to < length t - k
-    word_less = omega (arith, n.within)
-
-  pub entries_stop : {e : Wrong} → Stopping t k e → Err e ≡ reading t q (behind_header h)
-  entries_stop s = sym (v.is ∙ s (State.inside (meant g) []) (λ n. refl))
 
 ---- The opening words ----------------------------------------------------------------------------------------------------------
 

@@ -15,16 +15,15 @@ use Rattle.words.specs.Words.{same}
 use Rattle.words.proofs.SameLaws.{same_true}
 use Rattle.keywords.specs.declared.Side.{Side}
 use Rattle.keywords.specs.declared.Side.TheVariants.{Cmd, Res}
-use Rattle.keywords.specs.Tables.{Text, name as name_of, plain, ordinary}
-use Rattle.keywords.proofs.TableLaws.{to-ordinary}
+use Rattle.keywords.specs.Tables.{Text, name as name_of, ordinary}
 use Rattle.description.specs.declared.Endpoint.{Endpoint}
 use Rattle.description.specs.Reading.{Found, has, put, State, step, reading}
 use Rattle.description.proofs.BlockLaws.{step-entry, step-endpoint, step_second}
 use Rattle.description.proofs.TurnLaws.{turn_word}
-use Rattle.passing.specs.Passing.{NextName, Passable, Passed}
+use Rattle.passing.specs.Passing.{NextName, Passed}
 use Rattle.expecting.specs.Expecting.{parameters, Leads, Led}
 use Rattle.entries.specs.declared.Gathered.{Gathered}
-use Rattle.entries.specs.Entering.{maybe, meant, Parsed, Entering, Enterable, Enters}
+use Rattle.entries.specs.Entering.{maybe, meant, Parsed, Entering, Enters}
 
 ---- An endpoint ----------------------------------------------------------------------------------------------------------------
 
@@ -74,10 +73,6 @@ module _ {t : List ℕ} (name : Word) where
         → reading t name.to (State.endpoint s f) ≡ reading t k (State.inside (put s (endpoint_in vs) f) (w ∷ []))
     behind-parameters w s f n =
         rw n (l.is (State.endpoint s f) (λ vs. State.inside (put s (endpoint_in vs) f) (name_of s ∷ [])) (parameters_lead s f))
-
-    pub parse_passable : Passable t name name.to → Passable t name k
-    parse_passable h =
-        record { short = h.short; order = h.order; behind = l.place.0; inside = l.place.1; deep = omega (arith, l.place, h.deep) }
 
     pub parse_over : {q : ℕ} → Passed t name k (Ok q) → Parsed t name (Ok (endpoint_in vs, q))
     parse_over p =
@@ -137,9 +132,6 @@ module _ (w : Text) {a : Bool} (e : a ≡ same w (name_of Cmd)) where
     pub name-res : b ≡ true → w ≡ name_of Res
     name-res h = same_true w (name_of Res) (sym g ∙ h)
 
-    pub name-other : plain w ≡ true → a ≡ false → b ≡ false → ordinary w ≡ true
-    name-other p f h = to-ordinary w p (sym e ∙ f) (sym g ∙ h)
-
 ---- Behind /begin --------------------------------------------------------------------------------------------------------------
 
 module _ {t : List ℕ} {q : ℕ} {w : Word} (n : NextName t q (Ok w)) where
@@ -147,13 +139,3 @@ module _ {t : List ℕ} {q : ℕ} {w : Word} (n : NextName t q (Ok w)) where
   entry {g} (Ok (h, k)) y =
       record { is = turn_word (State.begun (meant g) []) n.0 ∙ y.is; place = (omega (arith, n.0.within, y.place), y.place.1) }
   entry {g} (Err e) y = record { is = turn_word (State.begun (meant g) []) n.0 ∙ y.is; place = tt }
-
-  pub entry_passable : Enterable t q → Passable t w w.to
-  entry_passable h =
-      record {
-        short = h.short;
-        order = omega (arith, n.0.within);
-        behind = omega arith;
-        inside = n.0.within.2;
-        deep = omega (arith, h.behind, n.0.within);
-      }

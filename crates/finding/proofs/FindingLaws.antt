@@ -201,10 +201,6 @@ passing_first {Says} {t} {q} {k} {o = o} g blank f e = rw e (by o f.is)
     by None c = on g.to (omega arith) c
     by (Some x) c = on c.0 (omega (arith, c.1)) c.3
 
--- for callers: by what the answer is
-pub word-told : {t : List ℕ} {q : ℕ} {r x : Next} → NextWord t q r → r ≡ x → NextWord t q x
-word-told n e = rw e at n
-
 pub ruleset gaps = (pass-first, pass_run, pass-blank, pass_blanks, pass-comment, pass-line)
 
 pub ruleset passes = (rules, gaps, pass-end, cut-comment, pass-string, cut-string, pass-other)

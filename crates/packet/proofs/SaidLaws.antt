@@ -31,9 +31,6 @@ reason_back Y.Foreign = refl
 reason_back Y.Misframed = refl
 reason_back Y.Misplaced = refl
 
-pub reason_only : {r u : Reason} → number_of r ≡ number_of u → r ≡ u
-reason_only {r} {u} e = sym (reason_back r) ∙ ap reason_at e ∙ reason_back u
-
 abbrev kind_at : ℕ → Option PacketKind
 kind_at n =
     get_or

@@ -17,14 +17,14 @@ use Rattle.words.proofs.SameLaws.{same_true}
 use Rattle.finding.specs.Finding.{NextWord}
 use Rattle.keywords.specs.declared.Side.TheVariants.{Cmd, Res}
 use Rattle.keywords.specs.Tables.{Text, begin, end, name, plain}
-use Rattle.keywords.proofs.TableLaws.{Plain, plain-is, to-plain}
+use Rattle.keywords.proofs.TableLaws.{Plain, plain-is}
 use Rattle.description.specs.Reading.{Found, State, step, reading}
 use Rattle.description.proofs.TurnLaws.{turn_on, turn_wrong, turn_end, turn_cut}
 use Rattle.passing.specs.declared.Names.{Names}
 use Rattle.passing.specs.declared.Sign.{Sign}
 use Rattle.passing.specs.declared.Sign.TheVariants as S
 use Rattle.passing.specs.Names.{name_in, names_in, held}
-use Rattle.passing.specs.Passing.{Needed, Stopping, Signed, NextName, Held, inside_of, opening, closing, Turned, Passable, Passed, OnTheWay}
+use Rattle.passing.specs.Passing.{Needed, Signed, NextName, Held, inside_of, opening, closing, Turned, Passable, Passed, OnTheWay}
 use Rattle.passing.proofs.NamesLaws.{names_some, top, empty, none_open, opened, lies}
 
 ---- What a word is -------------------------------------------------------------------------------------------------------------
@@ -44,9 +44,6 @@ module _ (w : Text) {a : Bool} (e : a ≡ same w begin) where
   module _ {b : Bool} (g : b ≡ same w end) where
     pub sign_end : b ≡ true → w ≡ end
     sign_end h = same_true w end (sym g ∙ h)
-
-    pub sign_other : a ≡ false → b ≡ false → plain w ≡ true
-    sign_other f h = to-plain w (sym e ∙ f) (sym g ∙ h)
 
 ---- Behind /begin --------------------------------------------------------------------------------------------------------------
 
@@ -92,9 +89,6 @@ module _ {t : List ℕ} {q : ℕ} {n : Names} (h : Held t n 6 q) where
           );
         }
 
-  pub open_wrong : {e : Wrong} → NextName t q (Err e) → Turned t q (opening t n) n (Err e)
-  open_wrong s = record { is = λ f. s f (names_in t n.places n.depth); place = tt }
-
 ---- Behind /end ----------------------------------------------------------------------------------------------------------------
 
 module _ {t : List ℕ} {q : ℕ} {n : Names} (some : 0 < n.depth) (h : Held t n 0 q) where
@@ -118,9 +112,6 @@ module _ {t : List ℕ} {q : ℕ} {n : Names} (some : 0 < n.depth) (h : Held t n
     pub close_other : b ≡ false → Turned t q (closing t n) n (Err (record { place = w.from }))
     unfolding step
     close_other e = record { is = λ f. turn_wrong (closing t n f) x (rw (← g, e)); place = tt }
-
-  pub close_stop : {e : Wrong} → Stopping t q e → Turned t q (closing t n) n (Err e)
-  close_stop s = record { is = λ f. s (closing t n f) (λ n. refl); place = tt }
 
 ---- Inside a block -------------------------------------------------------------------------------------------------------------
 
@@ -167,9 +158,6 @@ module _ {t : List ℕ} {q : ℕ} {n : Names} (some : 0 < n.depth) (h : Held t n
             record { short = h.short; inside = x.within.2; deep = omega (arith, h.deep, x.within); lie = h.lie },
           );
         }
-
-  pub inside_stop : {e : Wrong} → Stopping t q e → Turned t q (inside_of t n) n (Err e)
-  inside_stop s = record { is = λ f. s (inside_of t n f) (λ n. refl); place = tt }
 
 ---- To the end of a block ------------------------------------------------------------------------------------------------------
 

@@ -314,6 +314,7 @@ fn read_case(function: u32, head: &[u8], t: &[u8], rows: &mut [u32]) -> Line {
 }
 
 // What a case is put into: inputs and outputs, packets, and numbers.
+#[derive(Drop)]
 struct Tables {
     buffer: [u8; 262400],
     packets: [u8; 65664],
@@ -352,7 +353,7 @@ fn run_writer(function: u32, head: &[u8], body: &[u8], tables: &mut Tables) -> L
 }
 
 // The case's line, by its function.
-fn line(head: &[u8], body: &[u8], tables: &mut Tables) -> Line {
+fn run(head: &[u8], body: &[u8], tables: &mut Tables) -> Line {
     match word(head, 0) {
         function @ (1 | 3 | 9) => run_writer(function, head, body, tables),
         function => run_reader(function, head, body, tables),
@@ -373,7 +374,7 @@ fn turn(
         return Ok(false);
     }
     file.read_exact(&mut body[0..size])?;
-    println!(rt; "{}", line(&head, &body[0..size], tables))?;
+    println!(rt; "{}", run(&head, &body[0..size], tables))?;
     Ok(true)
 }
 

@@ -26,7 +26,3 @@ same_true (a ∷ s) (b ∷ t) e =
 pub same_refl : (t : List ℕ) → same t t ≡ true
 same_refl [] = refl
 same_refl (b ∷ t) = rw (eq-eqb b b refl) (same_refl t)
-
--- a part of a text, by its length
-pub slice_is : (k n : ℕ) (t : List ℕ) → k ≤ length t → slice k (k + n) t ≡ take n (drop k t)
-slice_is k n t h = rw (take-add k n t) (drop_at (take k t) (take n (drop k t)) k (length-take-le k t h))
