@@ -47,7 +47,8 @@ unfolding step
 asks_last x = record { word = λ w. only (same w xcp_on_usb) (State.done x); early = λ n. refl }
 
 module _ {t : List ℕ} {q : ℕ} (x : Said) where
-  pub last_on : {n k : ℕ} {o : Outcome} → Expects (meaning K.Block) t q (Ok (n, k)) → o ≡ reading t k (State.done x) → o ≡ reading t q (State.last x)
+  pub last_on : {n k : ℕ} {o : Outcome} → Expects (meaning K.Block) t q (Ok (n, k)) → o ≡ reading t k (State.done x)
+      → o ≡ reading t q (State.last x)
   last_on e j = j ∙ sym (e.is (State.last x) (λ _. State.done x) (asks_last x))
 
   pub last-wrong : {d : Wrong} → Expects (meaning K.Block) t q (Err d) → Err d ≡ reading t q (State.last x)

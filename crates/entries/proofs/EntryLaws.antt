@@ -108,7 +108,8 @@ module _ {t : List ℕ} {name : Word} {g : Gathered} where
         record { is = rw (n, step_second k (meant g) (sym v ∙ y)); place = tt }
 
     module _ (x : is_some o ≡ false) where
-      pub enter_first : {e : Endpoint} {q : ℕ} {h : Gathered} → Parsed t name (Ok (e, q)) → meant h ≡ put k e (meant g) → Entering t name g (Ok (h, q))
+      pub enter_first : {e : Endpoint} {q : ℕ} {h : Gathered} → Parsed t name (Ok (e, q)) → meant h ≡ put k e (meant g)
+          → Entering t name g (Ok (h, q))
       enter_first p m = record { is = rw (n, first k g o v x, m) (p.is k (meant g) n); place = p.place }
 
       pub enter_wrong : {e : Wrong} → Parsed t name (Err e) → Entering t name g (Err e)

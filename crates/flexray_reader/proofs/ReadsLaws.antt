@@ -130,7 +130,8 @@ module _ (s : Setting) (t : List ℕ) (c : Counter) (rows : List ℕ) where
       crowded j l = held (is_crowded _ _ _ j l (record { answer = refl; lent = refl }))
 
 pub rows-given : (s : Setting) (t : List ℕ) (c : Counter) (rows : List ℕ) {p : Plan} → Some p ≡ planned_of s
-    → true ≡ valid p.ctrwidth c → {k : ℕ} → JudgedAs 0 (judged (setting p) t) most_ceiling (Rows k) → 5 * k ≤ length rows → {new : List ℕ} {d : Counter}
+    → true ≡ valid p.ctrwidth c → {k : ℕ} → JudgedAs 0 (judged (setting p) t) most_ceiling (Rows k) → 5 * k ≤ length rows
+    → {new : List ℕ} {d : Counter}
     → filled new d ≡ framing p t c rows → Gives (read_of s t c rows) (R.Rows k d) new
 rows-given s t c rows i v j l f = held s t c rows i v (is-given _ _ _ j l f)
 

@@ -48,7 +48,8 @@ module _ (w : Text) {a : Bool} (e : a ≡ same w begin) where
 ---- Behind /begin --------------------------------------------------------------------------------------------------------------
 
 -- no name, but a word that opens or closes a block
-step_no : (f : Found) (ns : List Text) (w : Text) → same w (name Cmd) ≡ false → same w (name Res) ≡ false → plain w ≡ false → step (State.begun f ns) w ≡ none
+step_no : (f : Found) (ns : List Text) (w : Text) → same w (name Cmd) ≡ false → same w (name Res) ≡ false → plain w ≡ false
+    → step (State.begun f ns) w ≡ none
 unfolding step
 step_no f [] w a b e = rw (a, b, e)
 step_no f (n ∷ ns) w a b e = rw e
@@ -62,7 +63,8 @@ module _ {t : List ℕ} {q : ℕ} where
       let (n, b) = rw e at s in
       λ f ns. turn_wrong (State.begun f ns) n (rw b (step_no f ns end refl refl refl))
 
-step_name : (f : Found) (n : Text) (ns : List Text) (w : Text) → plain w ≡ true → step (State.begun f (n ∷ ns)) w ≡ some (State.inside f (w ∷ n ∷ ns))
+step_name : (f : Found) (n : Text) (ns : List Text) (w : Text) → plain w ≡ true
+    → step (State.begun f (n ∷ ns)) w ≡ some (State.inside f (w ∷ n ∷ ns))
 unfolding step
 step_name f n ns w e = rw e
 

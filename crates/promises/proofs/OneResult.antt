@@ -63,6 +63,7 @@ use Rattle.lending.proofs.usb_lent.Reads as LendUsb
 use Rattle.lending.proofs.flexray_lent.Reads as LendFlexRay
 use Rattle.lending.proofs.udp_lent.Reads as LendUdp
 use Rattle.spelling.proofs.ReportLaws.{one_report}
+use Rattle.spelling.proofs.Page.new.Reads as NewPage
 use Rattle.rowtext.proofs.report.Reads as Report
 use Rattle.settingtext.proofs.argument.Reads as Argument
 use Rattle.settingtext.proofs.report.Reads as SettingReport
@@ -157,6 +158,10 @@ c_others = (λ x a. same, λ x a. same, λ x a. same)
 pub reports : (Report.Post allows-one-and λ x e. e.1.1.0.now) × (SettingReport.Post allows-one-and λ x e. e.1.1.0.now)
 reports = (λ x a r u e f. one_report, λ x a r u e f. one_report)
 
+-- where a page begins, and what stands there
+pub page : (x : _) (a : _) (r u : _) (e f : _) → NewPage.Post x a r e → NewPage.Post x a u f → (r.out.now ≡ u.out.now) × (r.at ≡ u.at)
+page x a r u e f g h = (g.1.0 ∙ sym h.1.0, g.1.1 ∙ sym h.1.1)
+
 -- the longest packet, from the program's argument
 pub argument : Argument.Post allows-one
 argument x a = same
@@ -187,13 +192,14 @@ no_names x a r u e f g h =
 
 pub packet : (Fresh.Post allows-one) × (GapOne.Post allows-one) × (GapTwo.Post allows-one) × (Kind.Post allows-one) × (Check.Post allows-one)
     × (Whole.Post allows-one)
-packet =
-    ( λ x a. same,
-      λ x a. same,
-      λ x a. same,
-      λ x a r u e f g h. kind_only (g ∙ sym h),
-      λ x a r u e f g h. check_only (g ∙ sym h),
-      λ x a. same )
+packet = (
+  λ x a. same,
+  λ x a. same,
+  λ x a. same,
+  λ x a r u e f g h. kind_only (g ∙ sym h),
+  λ x a r u e f g h. check_only (g ∙ sym h),
+  λ x a. same,
+)
 
 -- the bytes that the part shows
 pub part : (x : _) (a : _) (r u : _) (e f : _) → Part.Post x a r e → Part.Post x a u f → r.now ≡ u.now

@@ -1,6 +1,7 @@
 -- The promises are about the functions' own contracts. A module `Reads` is what Rattle makes of the clauses that stand in a function's code: `Asked` is its
 -- `requires`, and `Post` its `ensures`, of the lifetimes x, the parameters a, the answer r, and the parameters as the call leaves them, e. Parameters are
--- `a.0`, `a.1.0`, `a.1.1.0` and so on; what code says of an answer is told in the definitions' words (`read_said` and the like). Each line shows that nothing is asked, and that the code ensures what the promises speak of: a clause that
+-- `a.0`, `a.1.0`, `a.1.1.0` and so on; what code says of an answer is told in the definitions' words (`read_said` and the like). Each line shows that
+-- nothing is asked, and that the code ensures what the promises speak of: a clause that
 -- asks for something, or says less, is refused here.
 use mathlib.Core.Path.{◌≡◌, refl}
 use mathlib.Core.Bool.{not}

@@ -106,7 +106,8 @@ puts_then {old} {at} {v} {w = w} p q =
     }
 
 -- .. on a page
-pub adds_then : {p : Page} {v : List ℕ} {m : ℕ} {q : Page} {w : List ℕ} {n : ℕ} {r : Page} → Adds p v m q → Adds q w n r → Adds p (v ++ w) (m + n) r
+pub adds_then : {p : Page} {v : List ℕ} {m : ℕ} {q : Page} {w : List ℕ} {n : ℕ} {r : Page} → Adds p v m q → Adds q w n r
+    → Adds p (v ++ w) (m + n) r
 adds_then a b = record { same = b.same ∙ a.same; puts = puts_then a.puts b.puts }
 
 pub ruleset spellings = (rules, spelt, word-put, bytes-put)

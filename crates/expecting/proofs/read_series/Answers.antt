@@ -11,7 +11,8 @@ loop-i-init g c = series_first c.requires (omega (arith, length-replicate {A = â
 
 pub returns-in_err-said : goal.returns-in_err-said
 returns-in_err-said g c =
-    rw (gives_on c.from_residual.result c.from_residual.ensures) (series_wrong c.loop-i.invariant (omega (arith, c.loop-i.invariant.all, c.loop-i-test.true)) _ c.in_err-said.ensures)
+    rw (gives_on c.from_residual.result c.from_residual.ensures)
+    (series_wrong c.loop-i.invariant (omega (arith, c.loop-i.invariant.all, c.loop-i-test.true)) _ c.in_err-said.ensures)
 
 pub loop-i-preserved : goal.loop-i-preserved
 loop-i-preserved g c = series_on c.loop-i.invariant (omega (arith, c.loop-i.invariant.all, c.loop-i-test.true)) _ c.in_ok-said.ensures
