@@ -1,6 +1,7 @@
 // Reading, written once for every layout: a step that judges and a loop over it, a step that tests no rule and a loop over it that gives the rows.
 // A loop is told its layout and its field widths by const parameters, so there is one for each case. What is no literal at every call, as the alignment,
-// goes as an argument.
+// goes as an argument. A step goes into each loop, so that the loop's case is known in it and nothing is handed over through memory: hence `inline`, here and
+// in what a step calls.
 #![tactic(auto)]
 
 ghost use Rattle.std.specs.Prelude.{◌≡◌, ◌+◌, ◌*◌, ◌≤◌, length, Ok};
@@ -20,6 +21,7 @@ use rows::put;
 
 // LEN of a header at h, or 0 where no header fits before the end. Where `tests` is false it fits.
 #[tactic(auto, using(crate::proofs::StepLaws::steps))]
+#[inline(always)]
 fn len_at(tests: bool, p: Plan, t: &[u8], h: usize, end: usize) -> usize
     requires { Header tests p t.now h end }
     ensures { Len tests p t.now h end result }
@@ -31,6 +33,7 @@ fn len_at(tests: bool, p: Plan, t: &[u8], h: usize, end: usize) -> usize
 }
 
 // What stands where LEN is 0 or no header fits, by three tests: a rest, one of two refusals, or nothing.
+#[inline(always)]
 fn bare(rest: bool, some: bool, short: bool, p: Plan, a: At) -> Result<Sight, Refusal>
     requires { Ended p a }
     ensures { sight_said result ≡ bare_by rest some short p a }
@@ -48,6 +51,7 @@ fn bare(rest: bool, some: bool, short: bool, p: Plan, a: At) -> Result<Sight, Re
 }
 
 // What stands in n bytes at a place whose header, at h, says no length or does not fit.
+#[inline(always)]
 fn bare_at(p: Plan, n: usize, a: At, h: usize) -> Result<Sight, Refusal>
     requires { Bare p a h }
     ensures { sight_said result ≡ bare_seen p n a h }
@@ -63,6 +67,7 @@ fn bare_at(p: Plan, n: usize, a: At, h: usize) -> Result<Sight, Refusal>
 
 // The place behind a packet that ends at e: behind its tail, where there are data packets. A frame and a datagram have none, and `behind` says the same
 // of them; but so the compiler need not round.
+#[inline(always)]
 fn past(p: Plan, e: usize) -> usize
     requires { Near p.align e }
     ensures { Beyond (past_at p e) e result }
@@ -74,6 +79,7 @@ fn past(p: Plan, e: usize) -> usize
 }
 
 // The message whose header at h says this length.
+#[inline(always)]
 fn found(p: Plan, t: &[u8], h: usize, len: usize) -> Found
     requires { Findable p t.now h }
     ensures { FoundAs p t.now h len result }
@@ -87,6 +93,7 @@ fn found(p: Plan, t: &[u8], h: usize, len: usize) -> Found
 }
 
 // What stands where a header at h says a length, by two tests: a refusal, or the message with the place behind it.
+#[inline(always)]
 fn message(over: bool, past: bool, h: usize, m: Found, next: At) -> Result<Sight, Refusal>
     requires { h ≤ 1000000 }
     ensures { sight_said result ≡ message_by over past h m next }
@@ -102,6 +109,7 @@ fn message(over: bool, past: bool, h: usize, m: Found, next: At) -> Result<Sight
 
 // What stands at a place whose header says a length.
 #[tactic(auto, using(crate::proofs::StepLaws::steps))]
+#[inline(always)]
 fn take(p: Plan, t: &[u8], a: At, h: usize, rest: usize, len: usize) -> Result<Sight, Refusal>
     requires { Headed p t.now a h rest len }
     ensures { sight_said result ≡ seen p t.now a }
@@ -118,6 +126,7 @@ fn take(p: Plan, t: &[u8], a: At, h: usize, rest: usize, len: usize) -> Result<S
 
 // What stands at a place, and the place behind it.
 #[tactic(auto, using(crate::proofs::StepLaws::steps))]
+#[inline(always)]
 fn see(p: Plan, t: &[u8], a: At) -> Result<Sight, Refusal>
     requires { Standing p t.now a }
     ensures { sight_said result ≡ seen p t.now a }
@@ -134,6 +143,7 @@ fn see(p: Plan, t: &[u8], a: At) -> Result<Sight, Refusal>
 
 // What stands at a place where a message or a rest stands: no rule is tested.
 #[tactic(auto, using(crate::proofs::FindLaws::findings))]
+#[inline(always)]
 fn find(p: Plan, t: &[u8], a: At) -> Sight
     requires { Going p t.now a }
     ensures { Finds p t.now a (sight_said (Ok result)) }

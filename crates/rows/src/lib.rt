@@ -35,6 +35,7 @@ pub fn valid(width: usize, c: Counter) -> bool
 }
 
 // Received less expected, modulo the size of a counter of so many bytes.
+#[inline(always)]
 fn apart(width: usize, received: u32, expected: u32) -> u32
     requires { Parted width received expected }
     ensures { result ≡ difference width received expected }
@@ -47,6 +48,7 @@ fn apart(width: usize, received: u32, expected: u32) -> u32
 }
 
 // The gap of a message with counter n, which is 0 without CTR.
+#[inline(always)]
 fn gap(width: usize, c: Counter, n: u32) -> u32
     requires { Counted width c n }
     ensures { result ≡ gap_of width c n }
@@ -58,6 +60,7 @@ fn gap(width: usize, c: Counter, n: u32) -> u32
 }
 
 // The counter after n.
+#[inline(always)]
 pub fn after(width: usize, n: u32) -> u32
     requires { Said width n }
     ensures { After width n result }
@@ -70,6 +73,7 @@ pub fn after(width: usize, n: u32) -> u32
 }
 
 // The state behind a message with counter n. Without CTR it is left as it is.
+#[inline(always)]
 fn advance(width: usize, c: Counter, n: u32) -> Counter
     requires { Counted width c n }
     ensures { Advanced width c n result }
@@ -82,6 +86,7 @@ fn advance(width: usize, c: Counter, n: u32) -> Counter
 }
 
 // The row of a message. Its kind is that of the packet's part of the input.
+#[inline(always)]
 fn row_of(direction: u32, width: usize, t: &[u8], c: Counter, m: Found) -> Row
     requires { Rowable direction width t.now c m }
     ensures { result ≡ row direction width c (message t.now m) }
@@ -96,6 +101,7 @@ fn row_of(direction: u32, width: usize, t: &[u8], c: Counter, m: Found) -> Row
     }
 }
 
+#[inline(always)]
 fn put_row(rows: &mut [u32], i: usize, r: Row)
     requires { i + 5 ≤ length rows.old }
     ensures { rows.new ≡ sets rows.old i (numbers r) }
@@ -108,6 +114,7 @@ fn put_row(rows: &mut [u32], i: usize, r: Row)
 }
 
 // Writes the row of a message whose counter has so many bytes, none if it carries none, and gives the state behind it.
+#[inline(always)]
 pub fn put(
     direction: u32,
     width: usize,

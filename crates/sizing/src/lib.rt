@@ -29,6 +29,7 @@ pub struct Sized {
 
 // Whether a message of so many bytes goes to the next data packet: each single one, one that is not wholly inside, in a stream one whose header is
 // not. The first place has the end 0, so that its message goes to the first data packet. A frame and a datagram are one data packet.
+#[inline(always)]
 fn crosses(p: Plan, whole: usize, a: At) -> bool
     requires { Reaching p whole a }
     ensures { result ≡ crosses_at p whole a }
@@ -38,6 +39,7 @@ fn crosses(p: Plan, whole: usize, a: At) -> bool
 }
 
 // The end of the data packet in which a place stands, behind one whose data packet has this end. Only a stream enters another one.
+#[inline(always)]
 fn end_of(p: Plan, end: usize, q: usize) -> usize
     requires { Streaming p.datapacket end q }
     ensures { result ≡ end_at p end q }
@@ -49,6 +51,7 @@ fn end_of(p: Plan, end: usize, q: usize) -> usize
 }
 
 // Where a message with a packet of n bytes comes to stand: at its place, or at the start of the next data packet.
+#[inline(always)]
 pub fn place(p: Plan, a: At, n: usize) -> Spot
     requires { Placing p a n }
     ensures { Placed p a n result }
@@ -65,6 +68,7 @@ pub fn place(p: Plan, a: At, n: usize) -> Spot
 }
 
 // The longest packet that fits by its length: in single and multiple packing its message fits a data packet.
+#[inline(always)]
 fn limit(p: Plan) -> usize
     requires { Formed p }
     ensures { result ≡ limit_of p }

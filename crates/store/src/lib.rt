@@ -8,6 +8,7 @@ ghost use Rattle.store.specs.Store.{Inside, Short, Copyable, First, few, block, 
 use layout::{both, either};
 
 // Puts one to three bytes from a place on: the first, the middle and the last.
+#[inline(always)]
 fn put_few(out: &mut [u8], at: usize, n: usize, first: u8, middle: u8, last: u8)
     requires { Short out.old at n 1 3 }
     ensures { out.new ≡ sets out.old at (few n first middle last) }
@@ -19,6 +20,7 @@ fn put_few(out: &mut [u8], at: usize, n: usize, first: u8, middle: u8, last: u8)
 
 // Puts n free bytes from a place on: by one store where n is known at the call, else by a call of memset. Tried: by the slice's `fill` the last
 // byte goes by a store of its own, behind two tests of n.
+#[inline(always)]
 pub fn set(out: &mut [u8], at: usize, n: usize, free: u8)
     requires { Inside out.old at n }
     ensures { out.new ≡ sets out.old at (replicate n free) }
@@ -29,6 +31,7 @@ pub fn set(out: &mut [u8], at: usize, n: usize, free: u8)
 }
 
 // Puts at most eight free bytes from a place on: often none, else a few, or the first four and the last four.
+#[inline(always)]
 pub fn fill_few(out: &mut [u8], at: usize, n: usize, free: u8)
     requires { Short out.old at n 0 8 }
     ensures { out.new ≡ sets out.old at (replicate n free) }
@@ -59,6 +62,7 @@ pub fn fill(out: &mut [u8], at: usize, n: usize, free: u8)
 // Copies n bytes of a part by a block of its own. All bytes are read before one is written, and nothing else tells the compiler that what
 // is read and what is written lie apart: it leaves the block out and moves the bytes at once, by a few moves where n is known at the call,
 // else by a call of memmove. Tried: copied with no block, each call tests whether they do, and has loops of bytes for where they do not.
+#[inline(always)]
 fn copy(out: &mut [u8], at: usize, part: &[u8], from: usize, n: usize)
     requires { Copyable out.old at part.now from n }
     ensures { out.new ≡ sets out.old at (block part.now from n) }
@@ -69,6 +73,7 @@ fn copy(out: &mut [u8], at: usize, part: &[u8], from: usize, n: usize)
 }
 
 // Copies a packet of m to twice as many bytes: the first m and the last m, which may lie over the first.
+#[inline(always)]
 fn copy_ends(out: &mut [u8], at: usize, packet: &[u8], m: usize)
     requires short { Short out.old at (length packet.now) m (m + m) }
     requires m_bound { m ≤ 65536 }
@@ -80,6 +85,7 @@ fn copy_ends(out: &mut [u8], at: usize, packet: &[u8], m: usize)
 }
 
 // Copies a packet to a place. Of one that is said to be likely short it is written out how many bytes go at once, so that each end goes by a move.
+#[inline(always)]
 pub fn put_packet(short: bool, out: &mut [u8], at: usize, packet: &[u8])
     requires { Short out.old at (length packet.now) 0 65536 }
     ensures { out.new ≡ sets out.old at packet.now }
@@ -105,6 +111,7 @@ pub fn put_packet(short: bool, out: &mut [u8], at: usize, packet: &[u8])
 
 // Copies a packet, the first n bytes of a part, to a place. Where more may go, one of at most 64 bytes goes by a block of 64, with what follows it in the
 // part: so no branch hangs on how long it is, which none can foresee. Whoever lets more go writes what stands behind the packet afterwards.
+#[inline(always)]
 pub fn put_first(more: bool, short: bool, out: &mut [u8], at: usize, part: &[u8], n: usize)
     requires { First out.old at part.now n }
     ensures { out.new ≡ sets out.old at (take n part.now ++ along more n part.now) }

@@ -26,6 +26,7 @@ pub struct Begin {
 // Writes a rest of n bytes, which starts with a zero LEN where the layout has rests and a header fits. What a single message leaves is free, and so
 // is what is passed over in a frame.
 #[tactic(auto, using(crate::proofs::PutLaws::rested))]
+#[inline(always)]
 pub fn put_rest(p: Plan, out: &mut [u8], at: usize, n: usize, free: u8)
     requires { Resting p out.old at n }
     ensures { out.new ≡ sets out.old at (rest_bytes p free n) }
@@ -43,6 +44,7 @@ pub fn put_rest(p: Plan, out: &mut [u8], at: usize, n: usize, free: u8)
 // Writes what is passed over before a message: in a stream a few free bytes, in which no header fits, in a frame those that align a packet, and in a
 // datagram none.
 #[tactic(auto, using(crate::proofs::PutLaws::passed))]
+#[inline(always)]
 fn put_passed(p: Plan, out: &mut [u8], at: usize, n: usize, free: u8)
     requires { Skipping p out.old at n }
     ensures { out.new ≡ sets out.old at (rest_bytes p free n) }
@@ -55,6 +57,7 @@ fn put_passed(p: Plan, out: &mut [u8], at: usize, n: usize, free: u8)
 }
 
 // Puts at most two free bytes from a place on.
+#[inline(always)]
 fn put_free(out: &mut [u8], at: usize, n: usize, free: u8)
     requires { Few out.old at n }
     ensures { out.new ≡ sets out.old at (replicate n free) }
@@ -68,6 +71,7 @@ fn put_free(out: &mut [u8], at: usize, n: usize, free: u8)
 
 // Writes a header at the front: LEN, CTR, free bytes.
 #[tactic(auto, using(crate::proofs::PutLaws::messages))]
+#[inline(always)]
 fn put_header(p: Plan, out: &mut [u8], n: usize, ctr: u32, free: u8)
     requires { Headed p out.old }
     ensures { out.new ≡ sets out.old 0 (head_bytes p free ctr n) }
@@ -83,6 +87,7 @@ fn put_header(p: Plan, out: &mut [u8], n: usize, ctr: u32, free: u8)
 }
 
 // Fills at least as many last bytes of a message that ends there as its tail can have: none in a frame or a datagram. Header and packet go over them.
+#[inline(always)]
 fn put_tail(p: Plan, out: &mut [u8], end: usize, free: u8)
     requires { Tailing p out.old end }
     ensures { out.new ≡ sets out.old (end - last_of p) (replicate (last_of p) free) }
@@ -102,6 +107,7 @@ fn put_tail(p: Plan, out: &mut [u8], end: usize, free: u8)
 // is written over. A frame's packet is likely short. With either for the others the loop would be so dear that the compiler makes no loop for
 // each case.
 #[tactic(auto, using(crate::proofs::PutLaws::messages))]
+#[inline(always)]
 fn put_message(p: Plan, out: &mut [u8], left: &[u8], n: usize, ctr: u32, free: u8)
     requires { Fitting p out.old left.now n }
     ensures { out.new ≡ sets out.old 0
@@ -121,6 +127,7 @@ fn put_message(p: Plan, out: &mut [u8], left: &[u8], n: usize, ctr: u32, free: u
 
 // Writes a message where it comes to stand, behind what is passed over from q on. It is handed the rest of the output.
 #[tactic(auto, using(crate::proofs::PutLaws::messages))]
+#[inline(always)]
 fn put_one(
     p: Plan,
     out: &mut [u8],
