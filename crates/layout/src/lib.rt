@@ -42,7 +42,6 @@ pub fn wide32(n: u32) -> usize
 }
 
 // The number in a field of at most two bytes; 0 where it has none. One arm reads both bytes, so that they go as one.
-#[inline(always)]
 pub fn field(t: &[u8], at: usize, width: usize) -> usize
     requires { Within t.now at width }
     ensures { Number t.now at width result }
@@ -55,7 +54,6 @@ pub fn field(t: &[u8], at: usize, width: usize) -> usize
 }
 
 // Puts a number into a field of at most two bytes; what does not fit is left out. One arm puts both bytes, as above.
-#[inline(always)]
 pub fn put_field(out: &mut [u8], at: usize, width: usize, n: usize)
     requires { Within out.old at width }
     ensures { out.new ≡ sets out.old at (bytes width n) }
@@ -73,7 +71,6 @@ pub fn put_field(out: &mut [u8], at: usize, width: usize, n: usize)
 }
 
 // Tests joined by a call: a caller keeps what each test says, which `&&` and `||` lose where their branches meet.
-#[inline(always)]
 pub fn both(a: bool, b: bool) -> bool
     ensures { result ≡ (a && b) }
 {
@@ -83,7 +80,6 @@ pub fn both(a: bool, b: bool) -> bool
     false
 }
 
-#[inline(always)]
 pub fn all(a: bool, b: bool, c: bool) -> bool
     ensures { result ≡ (a && b && c) }
 {
@@ -96,7 +92,6 @@ pub fn all(a: bool, b: bool, c: bool) -> bool
     false
 }
 
-#[inline(always)]
 pub fn either(a: bool, b: bool) -> bool
     ensures { result ≡ (a || b) }
 {
@@ -107,7 +102,6 @@ pub fn either(a: bool, b: bool) -> bool
 }
 
 // One of two numbers, by a test.
-#[inline(always)]
 pub fn pick(first: bool, a: usize, b: usize) -> usize
     ensures { result ≡ cond first a b }
 {
@@ -118,7 +112,6 @@ pub fn pick(first: bool, a: usize, b: usize) -> usize
 }
 
 // The lesser of two numbers.
-#[inline(always)]
 pub fn least(x: usize, y: usize) -> usize
     ensures { result ≡ min x y }
 {
@@ -129,7 +122,6 @@ pub fn least(x: usize, y: usize) -> usize
 }
 
 // The least multiple of the alignment that is not below x. Alignments are powers of two, so a mask takes the rest off: no division, no branch.
-#[inline(always)]
 pub fn rounded(align: usize, x: usize) -> usize
     requires { Roundable align x }
     ensures { Rounded align x result }

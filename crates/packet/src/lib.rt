@@ -113,7 +113,6 @@ impl Counter {
 
 impl Refusal {
     // At a place of an input.
-    #[inline(always)]
     pub fn at(reason: Reason, place: usize) -> Self
         requires { place < 4294967296 }
         ensures { result ≡ refusal_at reason place }
@@ -166,7 +165,6 @@ impl From<PacketKind> for u32 {
     }
 }
 
-#[inline(always)]
 fn kind_from_slave(b: u8) -> PacketKind
     ensures { number_of_kind result ≡ slave b }
 {
@@ -179,7 +177,6 @@ fn kind_from_slave(b: u8) -> PacketKind
     }
 }
 
-#[inline(always)]
 fn kind_from_master(b: u8) -> PacketKind
     ensures { number_of_kind result ≡ master b }
 {
@@ -190,7 +187,6 @@ fn kind_from_master(b: u8) -> PacketKind
 }
 
 // The kind of the packet at the start of a part that has bytes, from the slave or from the master.
-#[inline(always)]
 pub fn kind_of(slaves: bool, packet: &[u8]) -> PacketKind
     requires { 0 < length packet.now }
     ensures { number_of_kind result ≡ kind_from slaves packet.now }

@@ -64,7 +64,6 @@ pub fn joined(
 
 // The end of the data packet in which a stream's place stands, behind a place whose data packet has this end. One end between is passed without a
 // branch, since none can foresee where the messages of a stream end; a division only where there are more.
-#[inline(always)]
 pub fn streamed(m: usize, end: usize, q: usize) -> usize
     requires { Streaming m end q }
     ensures { result ≡ streamed_at m end q }
@@ -78,7 +77,6 @@ pub fn streamed(m: usize, end: usize, q: usize) -> usize
 
 impl Plan {
     // The plan with the scalars by which a loop was told its case in their places, where they are the plan's own: so the compiler knows them.
-    #[inline(always)]
     pub fn cased(
         self,
         layout: usize,
@@ -108,7 +106,6 @@ impl Plan {
     }
 
     // Whether data packets may end with a rest.
-    #[inline(always)]
     pub fn rests(self) -> bool
         ensures { result ≡ rests_of self }
     {
@@ -116,7 +113,6 @@ impl Plan {
     }
 
     // Where the header stands at a place. A frame's place is the end of a packet, and the byte before the next packet is its header.
-    #[inline(always)]
     pub fn header(self, q: usize) -> usize
         requires { Near self.align q }
         ensures { Beyond (header_at self q) q result }
@@ -129,7 +125,6 @@ impl Plan {
 
     // The place behind a packet that ends at e: behind its tail, where it has one. Places are multiples of the alignment, so that rounding the place
     // is rounding the message; a datagram's alignment is 1.
-    #[inline(always)]
     pub fn behind(self, e: usize) -> usize
         requires { Near self.align e }
         ensures { Beyond (behind_at self e) e result }
@@ -141,7 +136,6 @@ impl Plan {
     }
 
     // The start of the next data packet.
-    #[inline(always)]
     pub fn next_packet(self, a: At) -> At
         requires { a.end + self.datapacket ≤ 2000000000 }
         ensures { result ≡ packet_after self a }
@@ -153,7 +147,6 @@ impl Plan {
     }
 
     // The place behind a message. A single one leaves the rest of its data packet free, which is passed with it.
-    #[inline(always)]
     pub fn on(self, a: At, next: usize) -> At
         requires { Streaming self.datapacket a.end next }
         ensures { result ≡ on_at self a next }
