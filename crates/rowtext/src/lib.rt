@@ -47,7 +47,7 @@ fn put_answer(out: &mut [u8], rows: &[u32], answer: Result<Rows, Refusal>) -> us
     let mut page = Page::new(out);
     match answer {
         Ok(read) => put_rows(&mut page, rows, read.count as usize),
-        Err(refusal) => page.refusal(refusal),
+        Err(refusal) => page.refusal(u32::from(refusal.reason), refusal.place),
     }
     page.at
 }

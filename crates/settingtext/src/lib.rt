@@ -59,7 +59,7 @@ fn put_described(out: &mut [u8], answer: Result<Both, Refusal>) -> usize
     let mut page = Page::new(out);
     match answer {
         Ok(both) => put_lines(&mut page, both.cmdstim, both.resdaq),
-        Err(refusal) => page.refusal(refusal),
+        Err(refusal) => page.refusal(u32::from(refusal.reason), refusal.place),
     }
     page.at
 }

@@ -2,13 +2,11 @@
 #![tactic(auto)]
 
 ghost use Rattle.std.specs.Prelude.{◌≡◌, length};
-ghost use Rattle.packet.specs.Said.{number_of};
 ghost use Rattle.store.specs.Store.{Short};
 ghost use Rattle.spelling.specs.Put.{Spelt};
 ghost use Rattle.spelling.specs.Page.{Adds, Room};
 ghost use Rattle.spelling.specs.Text.{word, refused_text};
 
-use packet::Refusal;
 use store::put_packet;
 
 // A number's decimal digits at the front of a text, and how many there are.
@@ -56,14 +54,14 @@ impl<'a> Page<'a> {
         self.at += 1;
     }
 
-    // Puts the line of a refusal. With `write!` into the page the proof did not close: what `write!` wrote is known only where it gives Ok, and nothing
-    // says that it does where there is room.
-    pub fn refusal(&mut self, refusal: Refusal)
+    // Puts the line of a refusal, of any number. With `write!` into the page the proof did not close: what `write!` wrote is known only where it gives Ok,
+    // and nothing says that it does where there is room.
+    pub fn refusal(&mut self, number: u32, place: u32)
         requires { Room self.old 30 }
-        ensures { Adds self.old (refused_text (number_of refusal.reason) refusal.place) 30 self.new }
+        ensures { Adds self.old (refused_text number place) 30 self.new }
     {
         self.bytes(b"refused ");
-        self.word(u32::from(refusal.reason), b' ');
-        self.word(refusal.place, b'\n');
+        self.word(number, b' ');
+        self.word(place, b'\n');
     }
 }

@@ -2,15 +2,18 @@
 use Prim.Native.Nat.{ℕ, zero, suc, ◌+◌, ◌-◌, ◌<◌, ◌≤◌}
 use native.Mathlib.Omega.{arith}
 use native.Mathlib.Nat.{add-zero, zero-add, add-suc, suc-add}
+use native.Mathlib.Numerals.{add-one}
 use mathlib.Core.Path.{◌≡◌, refl, sym, ap, ◌∙◌}
 use mathlib.Core.Bool.{Bool, true, false, cond, ◌&&◌}
 use mathlib.Core.List.{List, [], ◌∷◌, ◌++◌, append-nil, append_assoc}
-use lib.ListN.{length, set, take, drop, length-set, length-take, length-drop, take-append-drop, drop_of_length-le}
+use lib.ListN.{length, get_or, set, take, drop, length-set, length-take, length-drop, take-append-drop, drop_of_length-le}
 use borrow.Rule.Slice.PartMut.{put_mid}
 use lib.Dec.{leb}
-use lib.Seq.{sets, sets-eq, take_all, drop-drop, take-take, set-set, set_comm, take-set-le, drop-set-add}
+use lib.Seq.{sets, sets-eq, set-set, set_comm, drop-drop, drop-set-add, get_or-take, get_or-drop}
+use lib.Seq.{take_all, take_at, take-take, take-suc, length-take-le, take-set-le}
+use Rattle.layout.proofs.PartLaws.{long}
 use Rattle.layout.proofs.RunLaws.{sets-append}
-use Rattle.store.specs.Store.{along}
+use Rattle.store.specs.Store.{block, along}
 
 ---- A part of an output ---------------------------------------------------------------------------------------------------------
 
@@ -20,6 +23,43 @@ pub part_put : (out vs : List ℕ) (at n : ℕ) {part : List ℕ} → at + n ≤
 part_put out vs at n h l e =
     let k : at + n - at ≡ n = omega arith in
     rw (k, e, sets-eq vs out at (omega arith), l, drop-drop, append_assoc)
+
+---- The loops ------------------------------------------------------------------------------------------------------------------
+
+-- of the n bytes vs, to be put at a place, the first i are put
+pub record Put (old : List ℕ) (at : ℕ) (vs : List ℕ) (n : ℕ) (out : List ℕ) (i : ℕ) : Type 0 where
+  pub count : length vs ≡ n
+  pub inside : i ≤ n
+  pub same : out ≡ sets old at (take i vs)
+  pub long : length out ≡ length old
+
+pub put-none : {old : List ℕ} {at : ℕ} {vs : List ℕ} {n : ℕ} → length vs ≡ n → Put old at vs n old 0
+put-none e = record { count = e; inside = omega arith; same = refl; long = refl }
+
+module _ {old : List ℕ} {at : ℕ} {vs : List ℕ} {n : ℕ} {out : List ℕ} {i : ℕ} (p : Put old at vs n out i) where
+  pub put_next : {w : ℕ} → i < n → get_or vs i 0 ≡ w → Put old at vs n (set out (at + i) w) (i + 1)
+  put_next {w} h e =
+      let t : take (i + 1) vs ≡ take i vs ++ (w ∷ []) = rw (add-one, ← e) (take-suc vs i 0 (omega arith)) in
+      let l : length (take i vs) ≡ i = length-take-le i vs (omega arith) in
+      record {
+        count = p.count;
+        inside = omega arith;
+        same = rw (p.same, t) (sym (sets-append (take i vs) (w ∷ []) old at ∙ rw l));
+        long = length-set out (at + i) w ∙ p.long;
+      }
+
+  pub put_all : n ≤ i → out ≡ sets old at vs
+  put_all h = p.same ∙ rw (take_all i vs (omega arith))
+
+pub block_at : (bs : List ℕ) (i n k : ℕ) → k < n → get_or (block bs i n) k 0 ≡ get_or bs (i + k) 0
+block_at bs i n k h = get_or-take n (drop i bs) k 0 h ∙ get_or-drop i bs k 0
+
+-- a block that is put at the front of other bytes, and from there at a place
+pub put_through : (bs mid old : List ℕ) (at i n : ℕ) → i + n ≤ length bs → n ≤ length mid → {one two : List ℕ}
+    → one ≡ sets mid 0 (block bs i n) → two ≡ sets old at (block one 0 n) → two ≡ sets old at (block bs i n)
+put_through bs mid old at i n l h x y =
+    let c : length (block bs i n) ≡ n = long bs i n l in
+    y ∙ rw (x, sets-eq (block bs i n) mid 0 (omega arith), take_at (block bs i n) _ n c)
 
 ---- What goes with a packet ----------------------------------------------------------------------------------------------------
 

@@ -59,6 +59,17 @@ pub fn fill(out: &mut [u8], at: usize, n: usize, free: u8)
     set(out, at, n, free);
 }
 
+// Copies n bytes of a part one by one: the library's `copy_from_slice` looks whether the two lie apart, and then the block of `copy` would not be left out.
+#[inline(always)]
+fn copy_each(out: &mut [u8], at: usize, part: &[u8], from: usize, n: usize)
+    requires { Copyable out.old at part.now from n }
+    ensures { out.new ≡ sets out.old at (block part.now from n) }
+{
+    for i in 0..n {
+        out[at + i] = part[from + i];
+    }
+}
+
 // Copies n bytes of a part by a block of its own. All bytes are read before one is written, and nothing else tells the compiler that what
 // is read and what is written lie apart: it leaves the block out and moves the bytes at once, by a few moves where n is known at the call,
 // else by a call of memmove. Tried: copied with no block, each call tests whether they do, and has loops of bytes for where they do not.
@@ -68,8 +79,8 @@ fn copy(out: &mut [u8], at: usize, part: &[u8], from: usize, n: usize)
     ensures { out.new ≡ sets out.old at (block part.now from n) }
 {
     let mut block: [u8; 65536] = [0; 65536];
-    block[..n].copy_from_slice(&part[from..from + n]);
-    out[at..at + n].copy_from_slice(&block[..n]);
+    copy_each(&mut block, 0, part, from, n);
+    copy_each(out, at, &block, 0, n);
 }
 
 // Copies a packet of m to twice as many bytes: the first m and the last m, which may lie over the first.

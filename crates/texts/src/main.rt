@@ -21,16 +21,21 @@ fn turn(rt: &HostRuntime, file: &mut File, body: &mut [u8], longest: u32) -> Res
 
 // The next text of the file, with X and its length before it, low byte first; tells whether there was one.
 fn next(rt: &HostRuntime, file: &mut File, body: &mut [u8]) -> Result<bool> {
-    let mut longest = [0u8; 4];
-    let mut size = [0u8; 4];
-    if file.read_exact(&mut longest).is_err() || file.read_exact(&mut size).is_err() {
+    let mut head = [0u8; 8];
+    if file.read_exact(&mut head).is_err() {
         return Ok(false);
     }
-    let size = u32::from_le_bytes(size) as usize;
+    let [a, b, c, d, e, f, g, h] = head;
+    let size = u32::from_le_bytes([e, f, g, h]) as usize;
     if size > body.len() {
         return Ok(false);
     }
-    turn(rt, file, &mut body[0..size], u32::from_le_bytes(longest))?;
+    turn(
+        rt,
+        file,
+        &mut body[0..size],
+        u32::from_le_bytes([a, b, c, d]),
+    )?;
     Ok(true)
 }
 

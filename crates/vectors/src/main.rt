@@ -6,7 +6,7 @@ use lending::Lent;
 use packet::{Counter, Refusal, Rows, Written};
 use std::fmt;
 use std::fs::File;
-use std::io::{Print, Read, Result};
+use std::io::{Cursor, Print, Read, Result, Write};
 
 // The five numbers of a line.
 #[derive(Clone, Copy)]
@@ -360,10 +360,19 @@ fn run(head: &[u8], body: &[u8], tables: &mut Tables) -> Line {
     }
 }
 
-// Reads a case, runs it and prints its line; tells whether there was one.
+// Writes what was gathered, and begins the text anew.
+fn flush(rt: &HostRuntime, text: &mut Cursor<[u8; 8192]>) -> Result<()> {
+    rt.stdout()
+        .write_all(part(text.get_ref(), 0, text.position() as usize))?;
+    text.set_position(0);
+    Ok(())
+}
+
+// Reads a case, runs it and puts its line into the text, which is written when it is nearly full, and behind the last case; tells whether there was one.
 fn turn(
     rt: &HostRuntime,
     file: &mut File,
+    text: &mut Cursor<[u8; 8192]>,
     body: &mut [u8; 2048],
     tables: &mut Tables,
 ) -> Result<bool> {
@@ -371,14 +380,19 @@ fn turn(
     let ends = file.read_exact(&mut head).is_err();
     let size = word(&head, 4) as usize;
     if ends || size > body.len() {
+        flush(rt, text)?;
         return Ok(false);
     }
     file.read_exact(&mut body[0..size])?;
-    println!(rt; "{}", run(&head, &body[0..size], tables))?;
+    writeln!(text, "{}", run(&head, &body[0..size], tables))?;
+    if text.position() >= 8000 {
+        flush(rt, text)?;
+    }
     Ok(true)
 }
 
 fn main(rt: HostRuntime) -> Result<()> {
+    let mut text = Cursor::new([0u8; 8192]);
     let mut body = [0u8; 2048];
     let mut tables = Tables {
         buffer: [0; 262400],
@@ -388,7 +402,7 @@ fn main(rt: HostRuntime) -> Result<()> {
     let mut file = File::open(&rt, "cases.bin")?;
     // A loop has to end, and nothing says that a file does: its turns are counted.
     for _ in 0..1000000 {
-        if !turn(&rt, &mut file, &mut body, &mut tables)? {
+        if !turn(&rt, &mut file, &mut text, &mut body, &mut tables)? {
             break;
         }
     }
