@@ -75,7 +75,8 @@ fn sign_of(word: &[u8]) -> Sign
     Sign::Other
 }
 
-// The next word from place q on, and which of three it is.
+// The next word from place q on, and which of three it is. It goes into its callers, here and below: a call hands its answer over through memory.
+#[inline(always)]
 pub fn next_sign(t: &[u8], q: usize) -> Result<(Sign, Word), Wrong>
     requires { q ≤ length t.now }
     ensures { Signed t.now q result }
@@ -85,6 +86,7 @@ pub fn next_sign(t: &[u8], q: usize) -> Result<(Sign, Word), Wrong>
 }
 
 // The name of a block, behind its /begin.
+#[inline(always)]
 pub fn next_name(t: &[u8], q: usize) -> Result<Word, Wrong>
     requires { q ≤ length t.now }
     ensures { NextName t.now q result }
