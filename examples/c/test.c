@@ -498,6 +498,93 @@ static void test_long_texts(void)
     CHECK(settings_refused(xcp_usb_settings(text, 16384, 64), 9, (uint32_t)at - 2));
 }
 
+/* A stack for one call: bytes that are still as they were painted the call did not touch. */
+static _Alignas(16) uint8_t stack[131072];
+
+/* How much stack a call takes, all that it calls included. It is called once before, so that the linker has found memset and memmove. */
+static size_t stack_of(void (*call)(void))
+{
+    call();
+    for (size_t i = 0; i < sizeof stack; i++)
+        stack[i] = 0xA5;
+    __asm__ volatile("movq %%rsp, %%rbx\n\tmovq %0, %%rsp\n\tcall *%1\n\tmovq %%rbx, %%rsp"
+                     :
+                     : "r"(stack + sizeof stack), "r"(call)
+                     : "rbx", "rax", "rcx", "rdx", "rsi", "rdi", "r8", "r9", "r10", "r11", "xmm0", "xmm1", "xmm2", "xmm3", "xmm4", "xmm5",
+                       "xmm6", "xmm7", "xmm8", "xmm9", "xmm10", "xmm11", "xmm12", "xmm13", "xmm14", "xmm15", "memory", "cc");
+    size_t untouched = 0;
+    while (untouched < sizeof stack && stack[untouched] == 0xA5)
+        untouched++;
+    return sizeof stack - untouched;
+}
+
+/* Calls whose stack is measured: packets of many lengths are written and read back, by each transport. */
+static uint8_t bytes[236], wire[2048];
+static const uint32_t many[] = {1, 2, 3, 4, 7, 8, 9, 16, 17, 40, 64, 65};
+static uint32_t table[5 * COUNT(many)];
+static xcp_usb_setting usb = {1, 0, 4, 128, 120, 0};
+static const xcp_flexray_setting flexray = {7, 0, 254, 8, 4};
+static const xcp_udp_setting udp = {1468, 0};
+static xcp_written written;
+static uint32_t number;
+
+static void write_usb(void)
+{
+    written = xcp_usb_write(usb, bytes, 236, many, COUNT(many), 0, 0xEE, 1, wire, sizeof wire);
+    number = written.number;
+}
+
+static void read_usb(void)
+{
+    number = xcp_usb_read(usb, wire, written.value, fresh, table, COUNT(table)).number;
+}
+
+static void write_flexray(void)
+{
+    written = xcp_flexray_write(flexray, bytes, 107, many, 10, 0, 0xEE, wire, sizeof wire);
+    number = written.number;
+}
+
+static void read_flexray(void)
+{
+    number = xcp_flexray_read(flexray, wire, written.value, fresh, table, COUNT(table)).number;
+}
+
+static void write_udp(void)
+{
+    written = xcp_udp_write(udp, bytes, 236, many, COUNT(many), 0, wire, sizeof wire);
+    number = written.number;
+}
+
+static void read_udp(void)
+{
+    number = xcp_udp_read(udp, wire, written.value, fresh, table, COUNT(table)).number;
+}
+
+/* the text that test_long_texts left: blocks as deep as can be */
+static void read_settings(void)
+{
+    number = xcp_usb_settings(text, 16384, 64).number;
+}
+
+static int accepted_within(size_t most, void (*call)(void))
+{
+    return stack_of(call) <= most && number == 0;
+}
+
+static void test_stack(void)
+{
+    for (usb.packing = 0; usb.packing < 3; usb.packing++) {
+        CHECK(accepted_within(1024, write_usb));
+        CHECK(accepted_within(1024, read_usb));
+    }
+    CHECK(accepted_within(1024, write_flexray));
+    CHECK(accepted_within(1024, read_flexray));
+    CHECK(accepted_within(1024, write_udp));
+    CHECK(accepted_within(1024, read_udp));
+    CHECK(stack_of(read_settings) <= 10240 && number == 9);
+}
+
 int main(void)
 {
     test_usb_read();
@@ -510,6 +597,7 @@ int main(void)
     test_usb_settings();
     test_no_settings();
     test_long_texts();
+    test_stack();
     printf("%u results as they should be, %u not\n", passed, failed);
     return failed != 0;
 }

@@ -33,9 +33,6 @@ pub record Put (old : List ℕ) (at : ℕ) (vs : List ℕ) (n : ℕ) (out : List
   pub same : out ≡ sets old at (take i vs)
   pub long : length out ≡ length old
 
-pub put-none : {old : List ℕ} {at : ℕ} {vs : List ℕ} {n : ℕ} → length vs ≡ n → Put old at vs n old 0
-put-none e = record { count = e; inside = omega arith; same = refl; long = refl }
-
 module _ {old : List ℕ} {at : ℕ} {vs : List ℕ} {n : ℕ} {out : List ℕ} {i : ℕ} (p : Put old at vs n out i) where
   pub put_next : {w : ℕ} → i < n → get_or vs i 0 ≡ w → Put old at vs n (set out (at + i) w) (i + 1)
   put_next {w} h e =
@@ -47,9 +44,6 @@ module _ {old : List ℕ} {at : ℕ} {vs : List ℕ} {n : ℕ} {out : List ℕ} 
         same = rw (p.same, t) (sym (sets-append (take i vs) (w ∷ []) old at ∙ rw l));
         long = length-set out (at + i) w ∙ p.long;
       }
-
-  pub put_all : n ≤ i → out ≡ sets old at vs
-  put_all h = p.same ∙ rw (take_all i vs (omega arith))
 
 pub block_at : (bs : List ℕ) (i n k : ℕ) → k < n → get_or (block bs i n) k 0 ≡ get_or bs (i + k) 0
 block_at bs i n k h = get_or-take n (drop i bs) k 0 h ∙ get_or-drop i bs k 0

@@ -1,5 +1,5 @@
 -- What a turn keeps.
-use Rattle.reading.proofs.LoopLaws.{message-judged, rest-judged, refused-judged}
+use Rattle.reading.proofs.LoopLaws.{message-judged, rest-judged}
 use Rattle.reading.proofs.judge_loop.Goals as goal
 
 pub loop-next-preserved-in-Ok-Message : goal.loop-next-preserved-in-Ok-Message
@@ -7,6 +7,3 @@ loop-next-preserved-in-Ok-Message g c = message-judged c.loop-next.invariant (rw
 
 pub loop-next-preserved : goal.loop-next-preserved
 loop-next-preserved g c = rest-judged c.loop-next.invariant (rw (c.in-Ok-Rest.is, c.in-Ok-Rest.field-0-is) at c.see.ensures)
-
-pub returns-in-Err : goal.returns-in-Err
-returns-in-Err g c = refused-judged c.loop-next.invariant c.cased-p.ensures (rw c.in-Err.is at c.see.ensures)
